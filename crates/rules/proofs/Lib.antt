@@ -1,0 +1,3 @@
+-- The shown cases, and the laws of the definitions.
+pub mod Shown
+pub mod Buffers
