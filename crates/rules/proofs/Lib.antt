@@ -1,3 +1,26 @@
--- The shown cases, and the laws of the definitions.
+-- The shown cases, and the laws of the definitions, each file below those that it cites.
 pub mod Shown
+pub mod Answers
 pub mod Buffers
+pub mod Lists
+pub mod Rows
+pub mod Fixed
+pub mod Communities
+pub mod Parts
+pub mod Blocks
+pub mod Readable
+pub mod Values
+pub mod Dropping
+pub mod Adding
+pub mod Rewriting
+pub mod Unaltered
+pub mod Sizes
+pub mod Room
+pub mod Carrying
+pub mod Verdicts
+pub mod Roles
+pub mod Runs
+pub mod Hops
+pub mod Chains
+pub mod Order
+pub mod Premises

@@ -8,7 +8,7 @@ use mathlib.Core.Bool.{Bool}
 use mathlib.Core.List.{List, [], _∷_, _++_}
 use mathlib.Core.Option.{Option, none, some}
 use lib.ListN.{length, replicate}
-use Rattle.rules.specs.Bytes.{bigEndian, sameBytes, every}
+use Rattle.rules.specs.Bytes.{bigEndian, sameBytes}
 use Rattle.rules.specs.Answers.{Answer, done, refused, number, beside, stored}
 use Rattle.rules.specs.Roles.{provider, rs, rsClient, customer, peer, counterpart, openSession}
 use Rattle.rules.specs.Receipt.{receive}
