@@ -87,9 +87,12 @@ module _ (f t : ℕ) (r : List ℕ) (n m : ℕ) (en : n ≡ lengthBytes f) (em :
         spells = rw (← en, take-take n (n + m) r (omega arith), ← em) (omega (arith, inside, length-drop n (take (n + m) r)));
       }
 
-  pub item-encode : encodeOne (attribute (f ∷ t ∷ take (n + m) r)) ≡ f ∷ t ∷ take (n + m) r
-  unfolding attribute part encodeOne
-  item-encode = ap (λ (q : List ℕ). f ∷ t ∷ q) (take-append-drop (lengthBytes f) (take (n + m) r))
+-- Any item of two bytes or more is what its attribute encodes to.
+pub encode-attribute : (a : List ℕ) → 2 ≤ length a → encodeOne (attribute a) ≡ a
+unfolding attribute part encodeOne
+encode-attribute [] h = absurd (omega arith)
+encode-attribute (f ∷ []) h = absurd (omega arith)
+encode-attribute (f ∷ t ∷ r) h = ap (λ (q : List ℕ). f ∷ t ∷ q) (take-append-drop (lengthBytes f) r)
 
 -- What is read of a block: framed attributes, which with what is left make the block again.
 pub record Reads (b : List ℕ) (c : Row) : Type 0 where
@@ -109,7 +112,7 @@ one-more f t r n m en em h e c =
       framed = (item-framed f t r n m en em h, c .framed);
       joined =
           append-assoc (encodeOne (attribute (f ∷ t ∷ take (n + m) r))) _ _
-          ∙ rw (c .joined, item-encode f t r n m en em h) (ap (λ (q : List ℕ). f ∷ t ∷ q) (take-append-drop (n + m) r));
+          ∙ rw (c .joined, encode-attribute (f ∷ t ∷ take (n + m) r) (omega arith)) (ap (λ (q : List ℕ). f ∷ t ∷ q) (take-append-drop (n + m) r));
     })
 
 size-at : (f t : ℕ) (r : List ℕ) → attributeSize (f ∷ t ∷ r) ≡ suc (suc (lengthBytes f + bigEndian (take (lengthBytes f) r)))

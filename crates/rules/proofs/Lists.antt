@@ -1,11 +1,11 @@
 -- Laws of lists that the kit lacks: of `keep`, and of lists that have no element.
-use Prim.Native.Nat.{ℕ, suc, _+_, _≤_}
+use Prim.Native.Nat.{ℕ, suc, _+_, _≤_, _<_}
 use mathlib.Core.Path.{_≡_, refl, sym, _∙_}
 use mathlib.Core.List.{List, [], _∷_, _++_}
 use mathlib.Core.Bool.{Bool, true, false, cond, true≢false}
 use native.Mathlib.Omega.{arith}
 use lib.ListN.{length}
-use Rattle.rules.specs.Bytes.{keep}
+use Rattle.rules.specs.Bytes.{isEmpty, keep}
 
 -- 1 for true
 abbrev pub bit : Bool → ℕ
@@ -14,6 +14,11 @@ bit x = cond x 1 0
 pub nil-of-length : {A : Type 0} (l : List A) → length l ≡ 0 → l ≡ []
 nil-of-length [] e = refl
 nil-of-length (x ∷ l) e = absurd (omega arith)
+
+pub is-empty-not : {A : Type 0} (l : List A) → 0 < length l → isEmpty l ≡ false
+unfolding isEmpty
+is-empty-not [] h = absurd (omega arith)
+is-empty-not (x ∷ l) h = refl
 
 module _ {A : Type 0} (p : A → Bool) where
   pub keep-on : (x : A) (l : List A) → p x ≡ true → keep p (x ∷ l) ≡ x ∷ keep p l

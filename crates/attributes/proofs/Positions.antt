@@ -1,0 +1,62 @@
+-- What the parts `&s[at..]` and `&s[at..at + n]` of some bytes mean, and cutting bytes into items from a position on, over any
+-- rule of size.
+use Prim.Native.Nat.{ℕ, _+_, _-_, _≤_, _<_}
+use mathlib.Core.Path.{_≡_, sym, ap, _∙_}
+use mathlib.Core.List.{List, []}
+use mathlib.Core.Bool.{cond}
+use native.Mathlib.Omega.{arith}
+use native.Mathlib.Nat.{add-sub-cancel-left, le-refl}
+use lib.ListN.{length, take, drop, length-drop, drop-of-length-le}
+use lib.Dec.{leb}
+use lib.Seq.{take-all, length-take-le, drop-drop}
+use Rattle.rules.specs.Rows.{fit, withItem, chop}
+use Rattle.rules.proofs.Rows.{fit-le, chop-stop, chop-step}
+
+module _ (s : List ℕ) (at : ℕ) where
+  -- The bytes that `&s[at..at + n]` lends, and how many.
+  pub part-is : (n : ℕ) → take (at + n - at) (drop at s) ≡ take n (drop at s)
+  part-is n = ap (λ (k : ℕ). take k (drop at s)) (add-sub-cancel-left at n)
+
+  pub part-length : (n : ℕ) → at + n ≤ length s → length (take (at + n - at) (drop at s)) ≡ n
+  part-length n h = rw (part-is n) (length-take-le n (drop at s) (rw length-drop (omega arith)))
+
+  -- The bytes that `&s[at..]` lends.
+  pub tail-is : take (length s - at) (drop at s) ≡ drop at s
+  tail-is = take-all (length s - at) (drop at s) (rw length-drop (le-refl _))
+
+-- A size that is known, and what `fit_size` makes of it.
+pub fit-sized : (size : List ℕ → ℕ) (s : List ℕ) {n r : ℕ} → n ≡ size s → r ≡ cond (leb n (length s)) n 0 → r ≡ fit size s
+unfolding fit
+fit-sized size s q e = rw (← q) e
+
+module _ (size : List ℕ → ℕ) (s : List ℕ) (at : ℕ) where
+  -- An item of n bytes at the position, and then the items after it.
+  pub chop-at : {n : ℕ} → n ≡ fit size (drop at s) → 0 < n
+      → chop size (drop at s) ≡ withItem (take n (drop at s)) (chop size (drop (at + n) s))
+  chop-at {n} e p = rw (← drop-drop n at s) (chop-step size (drop at s) e p)
+
+  -- No item at the end.
+  pub chop-end : length s ≤ at → chop size (drop at s) ≡ record { items = []; left = [] }
+  chop-end h =
+      let l = length-drop at s in
+      let k = fit-le size (drop at s) in
+      chop-stop size (drop at s) (omega arith) ∙ rw (drop-of-length-le s h)
+
+  -- What a rule says of `&s[at..]`: the item at the position, and that it ends within the bytes.
+  module _ {n : ℕ} (e : n ≡ fit size (take (length s - at) (drop at s))) where
+    pub fit-here : n ≡ fit size (drop at s)
+    fit-here = e ∙ ap (fit size) (tail-is s at)
+
+    pub fit-room : at ≤ length s → at + n ≤ length s
+    fit-room h =
+        let l = length-drop at s in
+        let k = fit-le size (drop at s) in
+        let q = fit-here in
+        omega arith
+
+    -- The item is what `&s[at..at + n]` lends, or there is none.
+    pub chop-next : (n ≡ 0 → ⊥) → chop size (drop at s) ≡ withItem (take (at + n - at) (drop at s)) (chop size (drop (at + n) s))
+    chop-next h = rw (part-is s at n) (chop-at fit-here (omega arith))
+
+    pub chop-torn : n ≡ 0 → chop size (drop at s) ≡ record { items = []; left = drop at s }
+    chop-torn z = chop-stop size (drop at s) (sym fit-here ∙ z)
