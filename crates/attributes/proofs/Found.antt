@@ -17,7 +17,8 @@ use Rattle.rules.proofs.Rows.{fit-none, fit-some, fit-le}
 use Rattle.rules.proofs.Blocks.{All, Framed, all-map, size-front, attribute-encode}
 use Rattle.rules.proofs.Readable.{Fine, read-good}
 use Rattle.rules.proofs.Parts.{size, size-cons}
-use Rattle.attributes.specs.Layout.{place, placeOf, firstValue, valueAt}
+use Rattle.attributes.specs.Layout.{place, placeOf, SizeAt, firstValue, valueAt}
+use Rattle.attributes.proofs.Positions.{fit-here, fit-room}
 use Rattle.attributes.proofs.Sizes.{size-least, item-header}
 
 -- What follows the first h of n bytes.
@@ -32,18 +33,21 @@ first-none : (s : List ℕ) → fit attributeSize s ≡ 0 → firstValue s ≡ [
 unfolding firstValue
 first-none s e = rw e refl
 
-encoded-pos : (a : Attribute) → 0 < length (encodeOne a)
+pub encoded-pos : (a : Attribute) → 0 < length (encodeOne a)
 unfolding encodeOne
 encoded-pos a = omega arith
 
 fit-nil : fit attributeSize [] ≡ 0
 fit-nil = fit-none attributeSize [] (omega (arith, size-least []))
 
-module _ (b : List ℕ) (at : ℕ) where
-  pub value-past : length b ≤ at → [] ≡ valueAt at b
-  unfolding valueAt
-  value-past h = sym (rw (drop-of-length-le b h) (first-none [] fit-nil))
+-- The size of the attribute at a place.
+pub size-past : (b : List ℕ) (at : ℕ) → length b ≤ at → SizeAt b at 0
+size-past b at h = record { is = sym (rw (drop-of-length-le b h) fit-nil); within = λ z. absurd (z refl) }
 
+pub size-here : (b : List ℕ) (at : ℕ) → at ≤ length b → {n : ℕ} → n ≡ fit attributeSize (take (length b - at) (drop at b)) → SizeAt b at n
+size-here b at h e = record { is = fit-here attributeSize b at e; within = λ z. fit-room attributeSize b at e h }
+
+module _ (b : List ℕ) (at : ℕ) where
   module _ {n : ℕ} (e : n ≡ fit attributeSize (drop at b)) where
     pub value-none : n ≡ 0 → [] ≡ valueAt at b
     unfolding valueAt

@@ -1,23 +1,23 @@
 -- The faults of a value, by the type of its attribute.
-use Prim.Native.Nat.{ℕ, _+_, _%_, _/_, _≤_}
+use Prim.Native.Nat.{ℕ, _+_, _%_, _≤_}
 use mathlib.Core.Path.{_≡_, refl}
 use mathlib.Core.List.{List}
 use mathlib.Core.Bool.{Bool, true, false, cond, not, _&&_}
 use native.Mathlib.Omega.{arith}
 use lib.ListN.{length, getD}
 use lib.Dec.{eqb, leb}
-use borrow.Author.Tests.{ne-eqb, eq-eqb}
+use borrow.Author.Tests.{ne-eqb}
 use Rattle.rules.specs.Attributes.{long, lengthBytes, originOk, asPathOk, otcOk, communitiesOk, valueFault}
 use Rattle.attributes.specs.Steps.{unless}
 
 -- The header is three bytes, or four where flag bit 0x10 is set.
-pub header-long : (f : ℕ) → f / 16 % 2 ≡ 1 → 4 ≡ 2 + lengthBytes f
-unfolding lengthBytes long
-header-long f e = rw (eq-eqb (f / 16 % 2) 1 e) refl
+pub header-long : (flags : ℕ) → long flags ≡ true → 4 ≡ 2 + lengthBytes flags
+unfolding lengthBytes
+header-long flags e = rw e
 
-pub header-short : (f : ℕ) → (f / 16 % 2 ≡ 1 → ⊥) → 3 ≡ 2 + lengthBytes f
-unfolding lengthBytes long
-header-short f e = rw (ne-eqb (f / 16 % 2) 1 e) refl
+pub header-short : (flags : ℕ) → long flags ≡ false → 3 ≡ 2 + lengthBytes flags
+unfolding lengthBytes
+header-short flags e = rw e
 
 module _ (v : List ℕ) where
   pub communities-none : length v ≡ 0 → false ≡ communitiesOk v

@@ -58,6 +58,11 @@ pub record Read (b : List ℕ) (r : Reading) : Type 0 where
   pub is : r ≡ reading b
   pub within : Within (length b) r
 
+-- The size of the attribute at a place, 0 where none fits there, and that it ends within the block.
+pub record SizeAt (b : List ℕ) (at n : ℕ) : Type 0 where
+  pub is : n ≡ fit attributeSize (drop at b)
+  pub within : (n ≡ 0 → ⊥) → at + n ≤ length b
+
 -- The value of the attribute that some bytes begin with; none where they are too short for one.
 unfoldable pub firstValue : List ℕ → List ℕ
 firstValue s = cond (eqb (fit attributeSize s) 0) [] (attribute (take (fit attributeSize s) s) .value)

@@ -2,7 +2,7 @@
 // the attributes that the layers above ask for stand in it. Not checked: flag bits other than 0x10, the value of an OTC, the
 // values of attributes that no rule names.
 pub mod as_path;
-mod values;
+pub mod values;
 
 use octets::fit_size;
 use octets::number2;
@@ -18,7 +18,7 @@ ghost use lib.Dec.{eqb};
 ghost use Rattle.rules.specs.Bytes.{bigEndian};
 ghost use Rattle.rules.specs.Rows.{fit};
 ghost use Rattle.rules.specs.Attributes.{attributeSize};
-ghost use Rattle.attributes.specs.Layout.{Read, valueAt};
+ghost use Rattle.attributes.specs.Layout.{Read, SizeAt, valueAt};
 ghost use Rattle.attributes.specs.Steps.{moved, noted};
 
 // Where attributes begin, counted in bytes from the start of the block; the block's length where there is none. The last two
@@ -120,14 +120,21 @@ pub fn read(block: &[u8]) -> Reading
     Reading::Clean(layout)
 }
 
+// The size of the attribute at a place; 0 where none fits there.
+pub fn attribute_size(block: &[u8], at: usize) -> usize
+    ensures { λ r. ⌜ SizeAt (now (block .entry)) at r ⌝ }
+{
+    if block.len() <= at {
+        return 0;
+    }
+    fit_attribute(&block[at..])
+}
+
 // The value of the attribute at a place; no byte where none fits there.
 pub fn value(block: &[u8], at: usize) -> &[u8]
     ensures { λ r. ⌜ now r ≡ valueAt at (now (block .entry)) ⌝ }
 {
-    if block.len() <= at {
-        return &block[0..0];
-    }
-    let n = fit_attribute(&block[at..]);
+    let n = attribute_size(block, at);
     if n == 0 {
         return &block[0..0];
     }

@@ -3,18 +3,21 @@ use super::as_path::as_path_ok;
 ghost use mathlib.Core.Path.{_≡_};
 ghost use Prim.Native.Nat.{_+_, _≤_};
 ghost use lib.ListN.{length, getD};
-ghost use Rattle.rules.specs.Attributes.{lengthBytes, attribute, originOk, otcOk, communitiesOk, valueFault};
+ghost use Rattle.rules.specs.Attributes.{long, lengthBytes, attribute, originOk, otcOk, communitiesOk, valueFault};
 ghost use Rattle.attributes.specs.Steps.{unless};
 
-// Flags, type and length bytes: the Extended Length bit, 0x10, makes the length two bytes (RFC 4271 section 4.3).
+// The Extended Length bit, 0x10, makes the length two bytes (RFC 4271 section 4.3).
+pub fn is_long(flags: u8) -> bool
+    ensures { λ r. ⌜ r ≡ long flags ⌝ }
+{
+    octets::wide(flags) / 16 % 2 == 1
+}
+
+// Flags, type and length bytes: where the value of an attribute begins.
 pub fn header_size(flags: u8) -> usize
     ensures { λ r. ⌜ r ≡ 2 + lengthBytes flags ⌝ }
 {
-    if octets::wide(flags) / 16 % 2 == 1 {
-        4
-    } else {
-        3
-    }
+    if is_long(flags) { 4 } else { 3 }
 }
 
 // ORIGIN is one byte, not above 2.

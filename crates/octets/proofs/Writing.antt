@@ -62,3 +62,7 @@ module _ {b : List ℕ} {o : ℕ} {goal out : List ℕ} {w : ℕ} where
 -- The last part is stored.
 pub writing-last : {b : List ℕ} {o : ℕ} {goal out xs out′ : List ℕ} {w w′ : ℕ} → Writing b o goal out w xs → Stored out w xs w′ out′ → Stored b o goal w′ out′
 writing-last {xs = xs} W S = writing-end (writing-step (writing-rest W (sym (append-nil xs))) S)
+
+-- Where there is nothing to store, the buffer stays as it is.
+pub stored-none : (b : List ℕ) (at : ℕ) {xs : List ℕ} → xs ≡ [] → Stored b at xs at b
+stored-none b at e = rw e (record { next = sym (add-zero at); is = sym (splice-nil b at) })

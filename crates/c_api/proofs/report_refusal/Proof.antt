@@ -1,0 +1,132 @@
+-- `c_api::report_refusal` meets its contract: each arm by the row of the table.
+use mathlib.Core.Path.{refl}
+use Rattle.rules.specs.Answers.{number, beside}
+use Rattle.c_api.specs.Numbers.{besideNumber}
+use borrow.Author.Needs.{needs}
+use Rattle.c_api.proofs.report_refusal.Statement.{statement}
+use Rattle.c_api.proofs.report_refusal.Tie as tie
+
+enum-known-refusal : tie.Need-enum-known-refusal
+enum-known-refusal c = search needs
+
+cast-beside : tie.Need-cast-beside
+cast-beside c = search needs
+
+enum-known-refusal-2 : tie.Need-enum-known-refusal-2
+enum-known-refusal-2 c = search needs
+
+cast-beside-2 : tie.Need-cast-beside-2
+cast-beside-2 c = search needs
+
+enum-known-refusal-3 : tie.Need-enum-known-refusal-3
+enum-known-refusal-3 c = search needs
+
+cast-beside-3 : tie.Need-cast-beside-3
+cast-beside-3 c = search needs
+
+enum-told : tie.Need-enum-told
+enum-told c = search needs
+
+enum-told-2 : tie.Need-enum-told-2
+enum-told-2 c = search needs
+
+enum-told-3 : tie.Need-enum-told-3
+enum-told-3 c = search needs
+
+enum-told-4 : tie.Need-enum-told-4
+enum-told-4 c = search needs
+
+enum-told-5 : tie.Need-enum-told-5
+enum-told-5 c = search needs
+
+enum-known-refusal-4 : tie.Need-enum-known-refusal-4
+enum-known-refusal-4 c = search needs
+
+enum-known-refusal-5 : tie.Need-enum-known-refusal-5
+enum-known-refusal-5 c = search needs
+
+enum-told-6 : tie.Need-enum-told-6
+enum-told-6 c = search needs
+
+enum-told-7 : tie.Need-enum-told-7
+enum-told-7 c = search needs
+
+returns : tie.Need-returns
+unfolding number beside besideNumber
+returns c = rw (c .before .refusal .given .1) (refl, refl)
+
+returns-2 : tie.Need-returns-2
+unfolding number beside besideNumber
+returns-2 c = rw (c .before .refusal2 .given .1) (refl, refl)
+
+returns-3 : tie.Need-returns-3
+unfolding number beside besideNumber
+returns-3 c = rw (c .before .refusal3 .given .1) (refl, refl)
+
+returns-4 : tie.Need-returns-4
+unfolding number beside besideNumber
+returns-4 c = rw (c .enum-told .given .1) (refl, refl)
+
+returns-5 : tie.Need-returns-5
+unfolding number beside besideNumber
+returns-5 c = rw (c .enum-told2 .given .1) (refl, refl)
+
+returns-6 : tie.Need-returns-6
+unfolding number beside besideNumber
+returns-6 c = rw (c .enum-told3 .given .1) (refl, refl)
+
+returns-7 : tie.Need-returns-7
+unfolding number beside besideNumber
+returns-7 c = rw (c .enum-told4 .given .1) (refl, refl)
+
+returns-8 : tie.Need-returns-8
+unfolding number beside besideNumber
+returns-8 c = rw (c .enum-told5 .given .1) (refl, refl)
+
+returns-9 : tie.Need-returns-9
+unfolding number beside besideNumber
+returns-9 c = rw (c .before .refusal4 .given .1) (refl, refl)
+
+returns-10 : tie.Need-returns-10
+unfolding number beside besideNumber
+returns-10 c = rw (c .before .refusal5 .given .1) (refl, refl)
+
+returns-11 : tie.Need-returns-11
+unfolding number beside besideNumber
+returns-11 c = rw (c .enum-told6 .given .1) (refl, refl)
+
+returns-12 : tie.Need-returns-12
+unfolding number beside besideNumber
+returns-12 c = rw (c .enum-told7 .given .1) (refl, refl)
+
+pub report-refusal-spec : {M : Type 1} → statement M
+report-refusal-spec =
+    tie.close
+    (tie.spec
+    enum-known-refusal
+    cast-beside
+    enum-known-refusal-2
+    cast-beside-2
+    enum-known-refusal-3
+    cast-beside-3
+    enum-told
+    enum-told-2
+    enum-told-3
+    enum-told-4
+    enum-told-5
+    enum-known-refusal-4
+    enum-known-refusal-5
+    enum-told-6
+    enum-told-7
+    returns
+    returns-2
+    returns-3
+    returns-4
+    returns-5
+    returns-6
+    returns-7
+    returns-8
+    returns-9
+    returns-10
+    returns-11
+    returns-12)

@@ -1,0 +1,106 @@
+// Receipt and sending for callers in C and Rust: numbers, slices and one number handed back. include/bgp_policy.h declares them.
+ghost use mathlib.Core.Path.{_≡_};
+ghost use Rattle.rules.specs.Answers.{refused, number, answerNumber, toldWritten};
+ghost use Rattle.rules.specs.Receipt.{receiptVerdict};
+ghost use Rattle.rules.specs.Sending.{sendingVerdict};
+ghost use Rattle.c_api.specs.Numbers.{besideNumber, Reported};
+use rules::Refusal;
+use rules::Session;
+use rules::Written;
+
+// A refusal as numbers: its number as the result, and through `beside` the number beside it, 0 where it has none.
+fn report_refusal(refusal: Refusal, beside: &mut usize) -> u8
+    ensures { λ r. ⌜ (r ≡ number refusal) × (now (beside .exit) ≡ besideNumber (refused refusal)) ⌝ }
+{
+    *beside = 0;
+    match refusal {
+        Refusal::Ineligible(rule) => {
+            *beside = rule as usize;
+            1
+        }
+        Refusal::Withheld(rule) => {
+            *beside = rule as usize;
+            2
+        }
+        Refusal::Malformed(fault) => {
+            *beside = fault as usize;
+            3
+        }
+        Refusal::Rejected => 4,
+        Refusal::BadSetting => 5,
+        Refusal::BadLength => 6,
+        Refusal::NoRoom => 7,
+        Refusal::BadOpen => 8,
+        Refusal::BadVrp(index) => {
+            *beside = index;
+            9
+        }
+        Refusal::BadCandidate(index) => {
+            *beside = index;
+            10
+        }
+        Refusal::NoRoute => 11,
+        Refusal::Unreadable => 12,
+    }
+}
+
+// An answer as numbers: the answer number as the result, and through `beside` the number beside it, the length on answer 0.
+fn report(answer: Written, beside: &mut usize) -> u8
+    ensures { λ r. ⌜ (r ≡ answerNumber (toldWritten answer)) × (now (beside .exit) ≡ besideNumber (toldWritten answer)) ⌝ }
+{
+    match answer {
+        Written::Bytes(length) => {
+            *beside = length;
+            0
+        }
+        Written::Refused(refusal) => report_refusal(refusal, beside),
+    }
+}
+
+// Receipt of a block on a session.
+#[no_mangle]
+pub extern "C" fn bgp_receive(
+    local_as: u32,
+    remote_as: u32,
+    local_role: u8,
+    mode: u8,
+    block: &[u8],
+    out: &mut [u8],
+    beside: &mut usize,
+) -> u8
+    ensures { λ r. ⌜ Reported (receiptVerdict (record { «local_as» = «local_as»; «remote_as» = «remote_as»; «local_role» = «local_role»; mode = mode }) (now (block .entry))) (now (out .entry)) r (now (beside .exit)) (now (out .exit)) ⌝ }
+{
+    let session = Session {
+        local_as,
+        remote_as,
+        local_role,
+        mode,
+    };
+    let answer = policy::receive(session, block, out);
+    report(answer, beside)
+}
+
+// Sending of a block on a session.
+#[no_mangle]
+pub extern "C" fn bgp_send(
+    local_as: u32,
+    remote_as: u32,
+    local_role: u8,
+    mode: u8,
+    source: u8,
+    state: u8,
+    block: &[u8],
+    out: &mut [u8],
+    beside: &mut usize,
+) -> u8
+    ensures { λ r. ⌜ Reported (sendingVerdict (record { «local_as» = «local_as»; «remote_as» = «remote_as»; «local_role» = «local_role»; mode = mode }) source state (now (block .entry))) (now (out .entry)) r (now (beside .exit)) (now (out .exit)) ⌝ }
+{
+    let session = Session {
+        local_as,
+        remote_as,
+        local_role,
+        mode,
+    };
+    let answer = policy::send(session, source, state, block, out);
+    report(answer, beside)
+}

@@ -1,0 +1,21 @@
+-- Each part is a test of the code.
+use borrow.Author.Needs.{needs}
+use Rattle.rules.specs.Settings.{roleOk, modeOk, sessionOk}
+use Rattle.policy.proofs.judge.session_ok.Statement.{statement}
+use Rattle.policy.proofs.judge.session_ok.Tie as tie
+
+ases-ok-requires : tie.Need-ases-ok-requires
+ases-ok-requires c κs = search needs
+
+both-requires : tie.Need-both-requires
+both-requires c κs = search needs
+
+both-requires-2 : tie.Need-both-requires-2
+both-requires-2 c κs = search needs
+
+returns : tie.Need-returns
+unfolding sessionOk roleOk modeOk
+returns c = simp (c .both2 .ensures, c .before .before .both .ensures, c .before .before .before .before .ases-ok .ensures)
+
+pub session-ok-spec : {M : Type 1} → statement M
+session-ok-spec = tie.close (tie.spec ases-ok-requires both-requires both-requires-2 returns)

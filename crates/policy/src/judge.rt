@@ -1,0 +1,225 @@
+// The settings, and the rules of receipt and sending (01, "Settings", "Receipt" and "Sending"; RFC 9234 section 5). All of it is
+// internal: receipt and sending call it.
+use rules::Session;
+ghost use mathlib.Core.Path.{_≡_};
+ghost use mathlib.Core.Bool.{true, not, cond, _&&_};
+ghost use mathlib.Core.List.{[], _∷_};
+ghost use mathlib.Core.Option.{none, some};
+ghost use Prim.Native.Nat.{_≤_};
+ghost use lib.Dec.{eqb};
+ghost use Rattle.rules.specs.Bytes.{oneOf};
+ghost use Rattle.rules.specs.Settings.{asOk, sourceOk, stateOk, sessionOk, modeMeant, dropInvalid, invalid};
+ghost use Rattle.rules.specs.Roles.{provider, rs, rsClient, customer, peer, counterpart};
+ghost use Rattle.rules.specs.Receipt.{otcReceived};
+ghost use Rattle.rules.specs.Sending.{ownRoute, tagSent, otcSent};
+ghost use Rattle.policy.specs.Plan.{toldTag, toldOtc};
+ghost use Rattle.policy.specs.Judge.{receiptRule, sendingRule};
+
+// Roles (RFC 9234 section 4.1, table 1).
+const PROVIDER: u8 = 0;
+
+const RS: u8 = 1;
+
+const RS_CLIENT: u8 = 2;
+
+const CUSTOMER: u8 = 3;
+
+const PEER: u8 = 4;
+
+// The source that is no neighbour's role (01, "own route").
+const OWN_ROUTE: u8 = 255;
+
+// Modes (01, "Modes").
+const HOUSE_DEFAULT: u8 = 1;
+
+const DROP_INVALID: u8 = 2;
+
+const PRIORITISE: u8 = 3;
+
+// States (01, "Origin state").
+const INVALID: u8 = 2;
+
+const UNAVAILABLE: u8 = 3;
+
+// Both tests hold. (A call, so that what follows has one flag and no branches that meet.)
+fn both(x: bool, y: bool) -> bool
+    ensures { λ r. ⌜ r ≡ (x && y) ⌝ }
+{
+    if x { y } else { false }
+}
+
+// The number is one of these two, or of these three.
+fn one_of_two(n: u8, a: u8, b: u8) -> bool
+    ensures { λ r. ⌜ r ≡ oneOf (a ∷ b ∷ []) n ⌝ }
+{
+    n == a || n == b
+}
+
+fn one_of_three(n: u8, a: u8, b: u8, c: u8) -> bool
+    ensures { λ r. ⌜ r ≡ oneOf (a ∷ b ∷ c ∷ []) n ⌝ }
+{
+    n == a || one_of_two(n, b, c)
+}
+
+// 01, Settings: "AS numbers 1 to 4,294,967,295", "the two of a session unequal".
+fn as_ok(n: u32) -> bool
+    ensures { λ r. ⌜ r ≡ asOk n ⌝ }
+{
+    1 <= n
+}
+
+fn ases_ok(local: u32, remote: u32) -> bool
+    ensures { λ r. ⌜ r ≡ (asOk local && asOk remote && not (eqb local remote)) ⌝ }
+{
+    both(both(as_ok(local), as_ok(remote)), local != remote)
+}
+
+// Each setting of a session is in its range (01, Settings).
+pub fn session_ok(session: Session) -> bool
+    ensures { λ r. ⌜ r ≡ sessionOk session ⌝ }
+{
+    let ases = ases_ok(session.local_as, session.remote_as);
+    both(
+        both(ases, session.local_role <= PEER),
+        session.mode <= PRIORITISE,
+    )
+}
+
+// 01, Settings: "source 0 to 4 or 255".
+fn source_ok(source: u8) -> bool
+    ensures { λ r. ⌜ r ≡ sourceOk source ⌝ }
+{
+    source <= PEER || source == OWN_ROUTE
+}
+
+// The settings of sending: those of its session, the source and the state (01, Settings).
+pub fn sending_ok(session: Session, source: u8, state: u8) -> bool
+    ensures { λ r. ⌜ r ≡ (sessionOk session && sourceOk source && stateOk state) ⌝ }
+{
+    both(
+        both(session_ok(session), source_ok(source)),
+        state <= UNAVAILABLE,
+    )
+}
+
+// The counterpart of a role (RFC 9234 section 4.2, table 2). A value above 4, which has none, stands for itself.
+fn remote_role(role: u8) -> u8
+    ensures { λ r. ⌜ r ≡ counterpart role ⌝ }
+{
+    match role {
+        PROVIDER => CUSTOMER,
+        RS => RS_CLIENT,
+        RS_CLIENT => RS,
+        CUSTOMER => PROVIDER,
+        PEER => PEER,
+        _ => role,
+    }
+}
+
+// A role that routes go up or across to: Provider, Peer or RS.
+fn is_up(role: u8) -> bool
+    ensures { λ r. ⌜ r ≡ oneOf (provider ∷ peer ∷ rs ∷ []) role ⌝ }
+{
+    one_of_three(role, PROVIDER, PEER, RS)
+}
+
+// The rule by which a received route is ineligible, or 0 (01, Receipt, rules 1 and 2; RFC 9234 section 5, ingress).
+pub fn receipt_rule(session: Session, has: bool, otc: u32) -> u8
+    ensures { λ r. ⌜ (r ≡ receiptRule session has otc) × (r ≤ 2) ⌝ }
+{
+    let role = session.local_role;
+    let remote = session.remote_as;
+    let from = remote_role(role);
+    let first = both(has, one_of_two(from, CUSTOMER, RS_CLIENT));
+    let second = both(both(has, from == PEER), otc != remote);
+    if first {
+        return 1;
+    }
+    if second {
+        return 2;
+    }
+    0
+}
+
+// The AS that a new OTC names where one is wanted: 0 for none. Internal: no AS is 0.
+fn otc_if(wanted: bool, asn: u32) -> u32
+    requires { ⌜ 1 ≤ asn ⌝ }
+    ensures { λ r. ⌜ toldOtc r ≡ cond wanted (some asn) none ⌝ }
+{
+    if wanted { asn } else { 0 }
+}
+
+// The AS that a new OTC names on receipt: 0 for none (01, Receipt). Internal: the session is valid.
+pub fn received_otc(session: Session) -> u32
+    requires { ⌜ sessionOk session ≡ true ⌝ }
+    ensures { λ r. ⌜ toldOtc r ≡ otcReceived session ⌝ }
+{
+    let from = remote_role(session.local_role);
+    otc_if(is_up(from), session.remote_as)
+}
+
+// A source that is neither an own route nor a Customer (01, Sending, rule 2).
+fn from_above(source: u8) -> bool
+    ensures { λ r. ⌜ r ≡ not (oneOf (ownRoute ∷ customer ∷ []) source) ⌝ }
+{
+    !one_of_two(source, OWN_ROUTE, CUSTOMER)
+}
+
+// The mode that is meant: 0 stands for the house default (01, Modes).
+fn mode_meant(mode: u8) -> u8
+    ensures { λ r. ⌜ r ≡ modeMeant mode ⌝ }
+{
+    if mode == 0 { HOUSE_DEFAULT } else { mode }
+}
+
+// An invalid route that the mode drops on its way to an RS-Client (01, Sending, rule 3).
+fn dropped(mode: u8, state: u8, to: u8) -> bool
+    ensures { λ r. ⌜ r ≡ (eqb (modeMeant mode) dropInvalid && eqb state invalid && eqb to rsClient) ⌝ }
+{
+    both(
+        both(mode_meant(mode) == DROP_INVALID, state == INVALID),
+        to == RS_CLIENT,
+    )
+}
+
+// The rule by which a route is withheld, or 0 (01, Sending, rules 1 to 3; RFC 9234 section 5, egress).
+pub fn sending_rule(session: Session, source: u8, state: u8, has: bool) -> u8
+    ensures { λ r. ⌜ (r ≡ sendingRule session source state has) × (r ≤ 3) ⌝ }
+{
+    let to = remote_role(session.local_role);
+    let up = is_up(to);
+    let above = from_above(source);
+    let first = both(has, up);
+    let second = both(above, up);
+    let third = dropped(session.mode, state, to);
+    if first {
+        return 1;
+    }
+    if second {
+        return 2;
+    }
+    if third {
+        return 3;
+    }
+    0
+}
+
+// The state that sending tags a route with: 3 for no tag (01, Sending).
+pub fn sent_tag(session: Session, source: u8, state: u8) -> u8
+    ensures { λ r. ⌜ toldTag r ≡ tagSent session source state ⌝ }
+{
+    if remote_role(session.local_role) == RS_CLIENT {
+        return state;
+    }
+    UNAVAILABLE
+}
+
+// The AS that a new OTC names on sending: 0 for none (01, Sending). Internal: the session is valid.
+pub fn sent_otc(session: Session, source: u8, state: u8) -> u32
+    requires { ⌜ sessionOk session ≡ true ⌝ }
+    ensures { λ r. ⌜ toldOtc r ≡ otcSent session source state ⌝ }
+{
+    let to = remote_role(session.local_role);
+    let marked = one_of_three(to, CUSTOMER, PEER, RS_CLIENT);
+    otc_if(marked, session.local_as)
+}

@@ -1,0 +1,65 @@
+/*
+ * Receipt and sending of BGP attribute blocks under RFC 9234 roles, for C. The functions are in libc_api.a, which
+ * `rt staticlib c_api` writes to target/staticlib.
+ */
+#ifndef BGP_POLICY_H
+#define BGP_POLICY_H
+
+#include <stddef.h>
+#include <stdint.h>
+
+#ifdef __cplusplus
+extern "C" {
+#endif
+
+/*
+ * Arguments that both functions take
+ *
+ * local_as, remote_as   the two AS numbers of the session: not 0, and not equal
+ * local_role            this end's role; the other end has its counterpart (0 with 3, 1 with 2, 4 with 4):
+ *                       0 Provider, 1 RS (route server), 2 RS-Client, 3 Customer, 4 Peer
+ * mode                  0 the house default, which is 1; 1 simple tagging; 2 drop invalid; 3 prioritise
+ * block, block_len      the attribute block: where it begins, and how many bytes it has, at most 4,073
+ * out, out_len          the output buffer: where it begins, and how many bytes it has; 4,073 is always enough
+ * beside                where the number beside the answer goes
+ *
+ * Settings of any value, a block of any bytes and a buffer of any length have an answer. But every pointer must be
+ * usable (never NULL, also where the length is 0), out must not overlap block, and *beside must lie in neither.
+ *
+ * Answers, and what *beside becomes
+ *
+ *  0  done: the new block is at the start of out            its length in bytes
+ *  1  ineligible, a leak (receipt only)                     the rule of receipt, 1 or 2
+ *  2  withheld (sending only)                               the rule of sending, 1, 2 or 3
+ *  3  attributes malformed, treat as withdraw               the fault, 1 to 6
+ *  5  a setting is out of range                             0
+ *  6  the block is longer than 4,073 bytes                  0
+ *  7  no room: the result is longer than out or than 4,073  0
+ *
+ * Where several apply, the first of 5, 6, 3, 1 or 2, 7 is given. Every call sets *beside. Only answer 0 stores anything in
+ * out, and then the bytes past the length in *beside stay as they were.
+ */
+
+/* Receipt: what this end keeps of a block that came from the other end. */
+uint8_t bgp_receive(uint32_t local_as, uint32_t remote_as, uint8_t local_role, uint8_t mode,
+                    const uint8_t *block, size_t block_len,
+                    uint8_t *out, size_t out_len,
+                    size_t *beside);
+
+/*
+ * Sending: what goes out to the other end.
+ *
+ * source   255 for an own route, else the role (0 to 4) of the neighbour that the route was learned from
+ * state    the origin validation state: 0 valid, 1 not found, 2 invalid, 3 unavailable
+ */
+uint8_t bgp_send(uint32_t local_as, uint32_t remote_as, uint8_t local_role, uint8_t mode,
+                 uint8_t source, uint8_t state,
+                 const uint8_t *block, size_t block_len,
+                 uint8_t *out, size_t out_len,
+                 size_t *beside);
+
+#ifdef __cplusplus
+}
+#endif
+
+#endif

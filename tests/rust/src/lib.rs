@@ -1,0 +1,130 @@
+//! Receipt and sending of the proved library, as safe Rust. `include/bgp_policy.h` says what the arguments and answers mean.
+
+/// Document 01's size of an attribute block: an output buffer of this length is always enough.
+pub const BLOCK_MAX: usize = 4073;
+
+/// The source of an own route.
+pub const OWN_ROUTE: u8 = 255;
+
+/// A session as one end sees it.
+#[derive(Clone, Copy, Debug)]
+pub struct Session {
+    pub local_as: u32,
+    pub remote_as: u32,
+    pub local_role: u8,
+    pub mode: u8,
+}
+
+// A slice passes as its pointer and then its length.
+extern "C" {
+    fn bgp_receive(
+        local_as: u32,
+        remote_as: u32,
+        local_role: u8,
+        mode: u8,
+        block: *const u8,
+        block_len: usize,
+        out: *mut u8,
+        out_len: usize,
+        beside: *mut usize,
+    ) -> u8;
+
+    fn bgp_send(
+        local_as: u32,
+        remote_as: u32,
+        local_role: u8,
+        mode: u8,
+        source: u8,
+        state: u8,
+        block: *const u8,
+        block_len: usize,
+        out: *mut u8,
+        out_len: usize,
+        beside: *mut usize,
+    ) -> u8;
+}
+
+// What `beside` holds before a call, so that a call that leaves it alone is seen.
+const UNSET: usize = usize::MAX;
+
+/// Receipt of a block: the answer number and the number beside it (the written length on answer 0).
+pub fn receive(session: Session, block: &[u8], out: &mut [u8]) -> (u8, usize) {
+    let mut beside = UNSET;
+    // Safe: the pointers and lengths are those of slices, and `out`, being `&mut`, overlaps nothing.
+    let answer = unsafe {
+        bgp_receive(
+            session.local_as,
+            session.remote_as,
+            session.local_role,
+            session.mode,
+            block.as_ptr(),
+            block.len(),
+            out.as_mut_ptr(),
+            out.len(),
+            &mut beside,
+        )
+    };
+    (answer, beside)
+}
+
+/// Sending of a block: the answer number and the number beside it (the written length on answer 0).
+pub fn send(session: Session, source: u8, state: u8, block: &[u8], out: &mut [u8]) -> (u8, usize) {
+    let mut beside = UNSET;
+    // Safe: as in `receive`.
+    let answer = unsafe {
+        bgp_send(
+            session.local_as,
+            session.remote_as,
+            session.local_role,
+            session.mode,
+            source,
+            state,
+            block.as_ptr(),
+            block.len(),
+            out.as_mut_ptr(),
+            out.len(),
+            &mut beside,
+        )
+    };
+    (answer, beside)
+}
+
+/// The other role of a pair; a value that is no role stays.
+pub fn counterpart(role: u8) -> u8 {
+    match role {
+        0..=3 => 3 - role,
+        other => other,
+    }
+}
+
+/// Bytes from hex digits.
+pub fn hex(digits: &str) -> Vec<u8> {
+    assert!(digits.len() & 1 == 0, "an odd number of hex digits");
+    (0..digits.len())
+        .step_by(2)
+        .map(|i| u8::from_str_radix(&digits[i..i + 2], 16).expect("hex digits"))
+        .collect()
+}
+
+/// Bytes as hex digits, with their number; long ones are cut.
+pub fn shown(bytes: &[u8]) -> String {
+    let head: String = bytes.iter().take(96).map(|b| format!("{b:02X}")).collect();
+    let cut = if bytes.len() > 96 { ".." } else { "" };
+    format!("{head}{cut} ({} bytes)", bytes.len())
+}
+
+/// Two buffers of a length that differ in every byte: what a call leaves alone in both of them it has not written.
+pub fn patterns(length: usize) -> [Vec<u8>; 2] {
+    let pattern: Vec<u8> = (0..length).map(|i| (i * 37 + 11) as u8).collect();
+    let other = pattern.iter().map(|b| !b).collect();
+    [pattern, other]
+}
+
+/// What a buffer must hold after an answer: the result from its start, if there is one, and past that what it held before.
+pub fn expected_buffer(before: &[u8], stored: Option<&[u8]>) -> Vec<u8> {
+    let mut after = before.to_vec();
+    if let Some(bytes) = stored {
+        after[..bytes.len()].copy_from_slice(bytes);
+    }
+    after
+}

@@ -1,0 +1,175 @@
+//! The cases that document 01 names, run at the functions with the results stored here.
+use bgp_policy::{
+    expected_buffer, hex, patterns, receive, send, shown, Session, BLOCK_MAX, OWN_ROUTE,
+};
+
+const PROVIDER: u8 = 0;
+const RS: u8 = 1;
+const CUSTOMER: u8 = 3;
+const PEER: u8 = 4;
+
+// AS 64500's end of its session with AS 64510, with simple tagging.
+fn session(local_role: u8) -> Session {
+    Session {
+        local_as: 64500,
+        remote_as: 64510,
+        local_role,
+        mode: 1,
+    }
+}
+
+// A call in buffers of `cap` bytes answers 0 and stores exactly `block`.
+fn stores(cap: usize, block: &[u8], run: impl Fn(&mut [u8]) -> (u8, usize)) {
+    for before in patterns(cap) {
+        let mut out = before.clone();
+        assert_eq!(run(&mut out), (0, block.len()));
+        let after = expected_buffer(&before, Some(block));
+        assert!(
+            out == after,
+            "stored {}, expected {}",
+            shown(&out),
+            shown(&after)
+        );
+    }
+}
+
+// A call in buffers of `cap` bytes gives this answer with this number beside it, and stores nothing.
+fn refuses(cap: usize, answer: u8, beside: usize, run: impl Fn(&mut [u8]) -> (u8, usize)) {
+    for before in patterns(cap) {
+        let mut out = before.clone();
+        assert_eq!(run(&mut out), (answer, beside));
+        assert!(out == before, "a refusal stored something");
+    }
+}
+
+// An ORIGIN and an empty AS_PATH.
+const OWN: &str = "40010100400200";
+
+// A readable block of `length` bytes with no OTC: ORIGIN, an empty AS_PATH, and one attribute of type 32 that fills the rest.
+fn block_of(length: usize) -> Vec<u8> {
+    let mut block = hex(OWN);
+    let value = length - block.len() - 4;
+    block.extend([0xD0, 32, (value / 256) as u8, (value % 256) as u8]);
+    block.resize(length, 0x5A);
+    block
+}
+
+// ORIGIN, an empty AS_PATH and a short communities attribute of `count` communities, none of them a tag.
+fn with_communities(count: u8) -> Vec<u8> {
+    let mut block = hex(OWN);
+    block.extend([0xC0, 16, count * 8]);
+    for i in 0..count {
+        block.extend([0x00, 0x02, 0, 0, 0, 0, 0, i]);
+    }
+    block
+}
+
+// What the communities of `with_communities` look like after a tag of state 1 and an OTC of AS 64500, under a header.
+fn tagged(header: &str, count: u8) -> Vec<u8> {
+    let mut block = hex(OWN);
+    block.extend(hex(header));
+    block.extend(&with_communities(count)[10..]);
+    block.extend(hex("4300000000000001"));
+    block.extend(hex("C023040000FBF4"));
+    block
+}
+
+#[test]
+fn p2_a_peer_route_is_marked_on_receipt() {
+    stores(
+        BLOCK_MAX,
+        &hex("4001010040020602010000FBFEC023040000FBFE"),
+        |out| receive(session(PEER), &hex("4001010040020602010000FBFE"), out),
+    );
+}
+
+#[test]
+fn p3_another_as_in_a_peers_otc_is_a_leak() {
+    refuses(BLOCK_MAX, 1, 2, |out| {
+        receive(
+            session(PEER),
+            &hex("4001010040020602010000FBFEC023040000FBF5"),
+            out,
+        )
+    });
+}
+
+#[test]
+fn p4_an_own_route_to_a_peer_is_marked() {
+    stores(BLOCK_MAX, &hex("40010100400200C023040000FBF4"), |out| {
+        send(session(PEER), OWN_ROUTE, 3, &hex(OWN), out)
+    });
+}
+
+#[test]
+fn p5_a_providers_route_is_withheld_from_a_peer() {
+    refuses(BLOCK_MAX, 2, 2, |out| {
+        send(session(PEER), PROVIDER, 3, &hex(OWN), out)
+    });
+}
+
+#[test]
+fn thirty_communities_and_a_tag_stay_short() {
+    stores(BLOCK_MAX, &tagged("C010F8", 30), |out| {
+        send(session(RS), OWN_ROUTE, 1, &with_communities(30), out)
+    });
+}
+
+#[test]
+fn thirty_one_communities_and_a_tag_become_long() {
+    stores(BLOCK_MAX, &tagged("D0100100", 31), |out| {
+        send(session(RS), OWN_ROUTE, 1, &with_communities(31), out)
+    });
+}
+
+// From a Customer and to a Provider nothing is added.
+#[test]
+fn a_block_of_4073_passes() {
+    let block = block_of(4073);
+    stores(BLOCK_MAX, &block, |out| {
+        receive(session(PROVIDER), &block, out)
+    });
+    stores(BLOCK_MAX, &block, |out| {
+        send(session(CUSTOMER), OWN_ROUTE, 3, &block, out)
+    });
+}
+
+#[test]
+fn a_block_of_4073_that_needs_an_otc_has_no_room() {
+    let block = block_of(4073);
+    for cap in [BLOCK_MAX, 4080, 5000] {
+        refuses(cap, 7, 0, |out| receive(session(PEER), &block, out));
+        refuses(cap, 7, 0, |out| {
+            send(session(PEER), OWN_ROUTE, 3, &block, out)
+        });
+    }
+}
+
+// 4,066 bytes and the seven of an OTC are 4,073.
+#[test]
+fn an_otc_may_fill_the_block() {
+    let block = block_of(4066);
+    let marked = |otc: &str| [block.clone(), hex(otc)].concat();
+    stores(BLOCK_MAX, &marked("C023040000FBFE"), |out| {
+        receive(session(PEER), &block, out)
+    });
+    stores(BLOCK_MAX, &marked("C023040000FBF4"), |out| {
+        send(session(PEER), OWN_ROUTE, 3, &block, out)
+    });
+    let block = block_of(4067);
+    refuses(5000, 7, 0, |out| receive(session(PEER), &block, out));
+    refuses(5000, 7, 0, |out| {
+        send(session(PEER), OWN_ROUTE, 3, &block, out)
+    });
+}
+
+#[test]
+fn a_block_of_4074_is_too_long() {
+    let block = block_of(4074);
+    for cap in [BLOCK_MAX, 5000] {
+        refuses(cap, 6, 0, |out| receive(session(PROVIDER), &block, out));
+        refuses(cap, 6, 0, |out| {
+            send(session(CUSTOMER), OWN_ROUTE, 3, &block, out)
+        });
+    }
+}
