@@ -1,6 +1,6 @@
 /*
- * Receipt and sending of BGP attribute blocks under RFC 9234 roles, for C. The functions are in libc_api.a, which
- * `rt staticlib c_api` writes to target/staticlib.
+ * Opening of BGP sessions under RFC 9234 roles, and receipt and sending of their attribute blocks, for C. The functions are
+ * in libc_api.a, which `rt staticlib c_api` writes to target/staticlib.
  */
 #ifndef BGP_POLICY_H
 #define BGP_POLICY_H
@@ -13,32 +13,55 @@ extern "C" {
 #endif
 
 /*
- * Arguments that both functions take
+ * Arguments
  *
- * local_as, remote_as   the two AS numbers of the session: not 0, and not equal
+ * Of all three functions
  * local_role            this end's role; the other end has its counterpart (0 with 3, 1 with 2, 4 with 4):
  *                       0 Provider, 1 RS (route server), 2 RS-Client, 3 Customer, 4 Peer
+ * beside                where the number beside the answer goes
+ *
+ * Of opening
+ * strict                1 where the other end must name its role, else 0
+ * parameters,           the optional parameters of the other end's OPEN: where they begin, and how many bytes they have,
+ * parameters_len        at most 255
+ *
+ * Of receipt and sending
+ * local_as, remote_as   the two AS numbers of the session: not 0, and not equal
  * mode                  0 the house default, which is 1; 1 simple tagging; 2 drop invalid; 3 prioritise
  * block, block_len      the attribute block: where it begins, and how many bytes it has, at most 4,073
  * out, out_len          the output buffer: where it begins, and how many bytes it has; 4,073 is always enough
- * beside                where the number beside the answer goes
  *
- * Settings of any value, a block of any bytes and a buffer of any length have an answer. But every pointer must be
- * usable (never NULL, also where the length is 0), out must not overlap block, and *beside must lie in neither.
+ * Settings of any value, parameters and a block of any bytes and a buffer of any length have an answer. But every pointer
+ * must be usable (never NULL, also where the length is 0), out must not overlap block, and *beside must lie in none of
+ * parameters, block and out.
  *
  * Answers, and what *beside becomes
  *
- *  0  done: the new block is at the start of out            its length in bytes
+ *  0  done
+ *       opening: the two ends agree                         the other end's role
+ *       receipt, sending: the new block is at the start
+ *       of out                                              its length in bytes
  *  1  ineligible, a leak (receipt only)                     the rule of receipt, 1 or 2
  *  2  withheld (sending only)                               the rule of sending, 1, 2 or 3
- *  3  attributes malformed, treat as withdraw               the fault, 1 to 6
- *  5  a setting is out of range                             0
- *  6  the block is longer than 4,073 bytes                  0
- *  7  no room: the result is longer than out or than 4,073  0
+ *  3  attributes malformed, treat as withdraw (receipt
+ *     and sending)                                          the fault, 1 to 6
+ *  4  session rejected, NOTIFICATION 2/11 (opening only)    0
+ *  5  a setting is out of range (all three)                 0
+ *  6  too long: parameters of more than 255 bytes, a block
+ *     of more than 4,073 (all three)                        0
+ *  7  no room: the result is longer than out or than 4,073
+ *     (receipt and sending)                                 0
+ *  8  OPEN parameters malformed (opening only)              0
  *
- * Where several apply, the first of 5, 6, 3, 1 or 2, 7 is given. Every call sets *beside. Only answer 0 stores anything in
- * out, and then the bytes past the length in *beside stay as they were.
+ * Where several apply, opening gives the first of 5, 6, 8, 4, and receipt and sending the first of 5, 6, 3, 1 or 2, 7.
+ * Every call sets *beside. Only answer 0 stores anything in out, and then the bytes past the length in *beside stay as
+ * they were.
  */
+
+/* Opening: whether the role that the other end names agrees with this end's, and which role it has. */
+uint8_t bgp_open(uint8_t local_role, uint8_t strict,
+                 const uint8_t *parameters, size_t parameters_len,
+                 size_t *beside);
 
 /* Receipt: what this end keeps of a block that came from the other end. */
 uint8_t bgp_receive(uint32_t local_as, uint32_t remote_as, uint8_t local_role, uint8_t mode,

@@ -1,28 +1,15 @@
--- What the parts `&s[at..]` and `&s[at..at + n]` of some bytes mean, and cutting bytes into items from a position on, over any
--- rule of size.
+-- Cutting bytes into items from a position on, over any rule of size.
 use Prim.Native.Nat.{ℕ, _+_, _-_, _≤_, _<_}
 use mathlib.Core.Path.{_≡_, sym, ap, _∙_}
 use mathlib.Core.List.{List, []}
 use mathlib.Core.Bool.{cond}
 use native.Mathlib.Omega.{arith}
-use native.Mathlib.Nat.{add-sub-cancel-left, le-refl}
 use lib.ListN.{length, take, drop, length-drop, drop-of-length-le}
 use lib.Dec.{leb}
-use lib.Seq.{take-all, length-take-le, drop-drop}
+use lib.Seq.{drop-drop}
 use Rattle.rules.specs.Rows.{fit, withItem, chop}
+use Rattle.octets.proofs.Slices.{part-is, tail-is}
 use Rattle.rules.proofs.Rows.{fit-le, chop-stop, chop-step}
-
-module _ (s : List ℕ) (at : ℕ) where
-  -- The bytes that `&s[at..at + n]` lends, and how many.
-  pub part-is : (n : ℕ) → take (at + n - at) (drop at s) ≡ take n (drop at s)
-  part-is n = ap (λ (k : ℕ). take k (drop at s)) (add-sub-cancel-left at n)
-
-  pub part-length : (n : ℕ) → at + n ≤ length s → length (take (at + n - at) (drop at s)) ≡ n
-  part-length n h = rw (part-is n) (length-take-le n (drop at s) (rw length-drop (omega arith)))
-
-  -- The bytes that `&s[at..]` lends.
-  pub tail-is : take (length s - at) (drop at s) ≡ drop at s
-  tail-is = take-all (length s - at) (drop at s) (rw length-drop (le-refl _))
 
 -- A size that is known, and what `fit_size` makes of it.
 pub fit-sized : (size : List ℕ → ℕ) (s : List ℕ) {n r : ℕ} → n ≡ size s → r ≡ cond (leb n (length s)) n 0 → r ≡ fit size s

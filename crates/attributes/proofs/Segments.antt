@@ -17,7 +17,8 @@ use Rattle.rules.specs.Choice.{pathLength}
 use Rattle.rules.specs.Origin.{finalOrigin, originIn}
 use Rattle.rules.proofs.Lists.{is-empty-not}
 use Rattle.rules.proofs.Rows.{fit-le, fit-some, fit-none, fit-is, chop-stop, chop-step}
-use Rattle.attributes.proofs.Positions.{part-is, part-length, fit-here, fit-room, chop-at, chop-end, chop-next, chop-torn}
+use Rattle.octets.proofs.Slices.{part-is, part-length}
+use Rattle.attributes.proofs.Positions.{fit-here, fit-room, chop-at, chop-end, chop-next, chop-torn}
 
 -- The ASNs of a segment from a position on.
 unfoldable pub asnsFrom : List ℕ → ℕ → List ℕ

@@ -18,7 +18,7 @@ use Rattle.attributes.specs.Layout.{place, placeOf, placeAbove, layout, 
 use Rattle.attributes.specs.Steps.{noted}
 use Rattle.attributes.specs.declared.Layout.{Layout}
 use Rattle.attributes.specs.declared.Reading.the-variants.{Clean, Fault}
-use Rattle.attributes.proofs.Positions.{part-is}
+use Rattle.octets.proofs.Slices.{part-is}
 use Rattle.attributes.proofs.Sizes.{item-length, item-least}
 use Rattle.attributes.proofs.ValueFaults.{fault-range}
 use Rattle.attributes.proofs.Faults.{faultFrom, fault-from-start, fault-end, fault-torn, fault-repeated, fault-own, fault-again, attributes-step}

@@ -7,13 +7,13 @@ use Rattle.rules.specs.Answers.{Answer, done, refused, answerNumber, beside}
 use Rattle.rules.specs.Attributes.{Attribute}
 use Rattle.rules.specs.Changes.{Leaves}
 
--- The column "Beside it": the result of answer 0, here the length that was stored, or the number beside the refusal; 0 where the
--- table has none.
+-- The column "Beside it": the result of answer 0, here the remote role or the length that was stored, or the number beside the
+-- refusal; 0 where the table has none.
 unfoldable pub besideNumber : Answer ℕ → ℕ
 besideNumber (done n) = n
 besideNumber (refused r) = Option·getD (beside r) 0
 
--- What an exported call promises, where `decided` is what the definition decides: the buffer and the answer as `Got` and `Sent` of
+-- What receipt and sending promise, where `decided` is what the definition decides: the buffer and the answer as `Got` and `Sent` of
 -- `rules` say them, and that answer as two numbers.
 pub record Reported (decided : Answer (List Attribute)) (before : List ℕ) (number besides : ℕ) (after : List ℕ) : Type 0 where
   pub told : Answer ℕ

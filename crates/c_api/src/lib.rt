@@ -1,9 +1,11 @@
-// Receipt and sending for callers in C and Rust: numbers, slices and one number handed back. include/bgp_policy.h declares them.
+// Opening, receipt and sending for callers in C and Rust: numbers, slices and one number handed back. include/bgp_policy.h declares them.
 ghost use mathlib.Core.Path.{_≡_};
-ghost use Rattle.rules.specs.Answers.{refused, number, answerNumber, toldWritten};
+ghost use Rattle.rules.specs.Answers.{refused, number, answerNumber, toldOpened, toldWritten};
+ghost use Rattle.rules.specs.Roles.{openSession};
 ghost use Rattle.rules.specs.Receipt.{receiptVerdict};
 ghost use Rattle.rules.specs.Sending.{sendingVerdict};
 ghost use Rattle.c_api.specs.Numbers.{besideNumber, Reported};
+use rules::Opened;
 use rules::Refusal;
 use rules::Session;
 use rules::Written;
@@ -44,7 +46,20 @@ fn report_refusal(refusal: Refusal, beside: &mut usize) -> u8
     }
 }
 
-// An answer as numbers: the answer number as the result, and through `beside` the number beside it, the length on answer 0.
+// An answer of opening as numbers: its number as the result, and through `beside` the number beside it, the remote role on answer 0.
+fn report_opened(answer: Opened, beside: &mut usize) -> u8
+    ensures { λ r. ⌜ (r ≡ answerNumber (toldOpened answer)) × (now (beside .exit) ≡ besideNumber (toldOpened answer)) ⌝ }
+{
+    match answer {
+        Opened::Role(role) => {
+            *beside = role as usize;
+            0
+        }
+        Opened::Refused(refusal) => report_refusal(refusal, beside),
+    }
+}
+
+// An answer of receipt or sending as numbers: likewise, with the length on answer 0.
 fn report(answer: Written, beside: &mut usize) -> u8
     ensures { λ r. ⌜ (r ≡ answerNumber (toldWritten answer)) × (now (beside .exit) ≡ besideNumber (toldWritten answer)) ⌝ }
 {
@@ -55,6 +70,15 @@ fn report(answer: Written, beside: &mut usize) -> u8
         }
         Written::Refused(refusal) => report_refusal(refusal, beside),
     }
+}
+
+// Opening of a session: the role agreement in the OPEN's optional parameters.
+#[no_mangle]
+pub extern "C" fn bgp_open(local_role: u8, strict: u8, parameters: &[u8], beside: &mut usize) -> u8
+    ensures { λ r. ⌜ (r ≡ answerNumber (openSession «local_role» strict (now (parameters .entry)))) × (now (beside .exit) ≡ besideNumber (openSession «local_role» strict (now (parameters .entry)))) ⌝ }
+{
+    let answer = roles::open_session(parameters, local_role, strict);
+    report_opened(answer, beside)
 }
 
 // Receipt of a block on a session.

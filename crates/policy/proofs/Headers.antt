@@ -12,7 +12,7 @@ use Rattle.rules.specs.Bytes.{isEmpty, bytes2}
 use Rattle.rules.specs.Attributes.{Attribute, attribute, encodeOne, long, lengthBytes}
 use Rattle.rules.specs.Changes.{isTag, tag, dropFrom, withValue}
 use Rattle.rules.proofs.Lists.{nil-of-length, is-empty-not}
-use Rattle.attributes.proofs.Positions.{tail-is}
+use Rattle.octets.proofs.Slices.{tail-is}
 use Rattle.policy.specs.Plan.{tagBytes, leftOf, communityBytes}
 use Rattle.policy.specs.Communities.{header}
 

@@ -4,14 +4,12 @@ use mathlib.Core.Path.{_≡_, refl}
 use mathlib.Core.Bool.{true, false, not, cond, _&&_, false≢true}
 use mathlib.Core.List.{[], _∷_}
 use mathlib.Core.Option.{none, some}
-use Prim.Native.Nat.{ℕ, zero, suc, _≤_, _<_}
+use Prim.Native.Nat.{ℕ, zero, suc, _≤_}
 use native.Mathlib.Omega.{arith}
 use lib.Dec.{eqb}
-use lib.ListN.{List·getD-eq-default}
 use borrow.Author.Tests.{lt-leb, ne-eqb}
 use Rattle.rules.specs.Bytes.{exists, oneOf}
 use Rattle.rules.specs.Settings.{asOk, roleOk, modeOk, sessionOk, localAs, remoteAs, localRole, valid, notFound, invalid}
-use Rattle.rules.specs.Roles.{provider, rs, rsClient, customer, peer, counterpart}
 use Rattle.rules.specs.declared.Session.{Session}
 use Rattle.rules.proofs.Roles.{and-left, and-right}
 use Rattle.policy.specs.Plan.{toldTag}
@@ -31,11 +29,6 @@ session-ases s e =
     let role = apart && roleOk (localRole s) in
     let both = and-left ases (not (eqb (localAs s) (remoteAs s))) (and-left apart (roleOk (localRole s)) (and-left role (modeOk (s .mode)) e)) in
     (as-some (localAs s) (and-left (asOk (localAs s)) (asOk (remoteAs s)) both), as-some (remoteAs s) (and-right (asOk (localAs s)) (asOk (remoteAs s)) both))
-
--- RFC 9234 section 4.2, table 2: no role above 4 has a counterpart.
-pub counterpart-other : (role : ℕ) → 4 < role → counterpart role ≡ role
-unfolding counterpart
-counterpart-other role h = List·getD-eq-default (customer ∷ rsClient ∷ rs ∷ provider ∷ peer ∷ []) role h
 
 -- 01, Sending: "the state is 0, 1 or 2".
 pub state-told : (state : ℕ) → toldTag state ≡ cond (oneOf (valid ∷ notFound ∷ invalid ∷ []) state) (some state) none

@@ -11,7 +11,8 @@ use Rattle.rules.specs.Bytes.{keep}
 use Rattle.rules.specs.Rows.{Row, fit, withItem, chop, by}
 use Rattle.rules.specs.Changes.{isTag, communities, dropFrom}
 use Rattle.rules.proofs.Rows.{fit-none, fit-some, chop-stop}
-use Rattle.attributes.proofs.Positions.{part-is, chop-at}
+use Rattle.octets.proofs.Slices.{part-is}
+use Rattle.attributes.proofs.Positions.{chop-at}
 use Rattle.policy.specs.Communities.{kept}
 
 -- Two bytes decide whether a community is a tag.

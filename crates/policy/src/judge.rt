@@ -1,5 +1,11 @@
 // The settings, and the rules of receipt and sending (01, "Settings", "Receipt" and "Sending"; RFC 9234 section 5). All of it is
 // internal: receipt and sending call it.
+use roles::CUSTOMER;
+use roles::PEER;
+use roles::PROVIDER;
+use roles::RS;
+use roles::RS_CLIENT;
+use roles::remote_role;
 use rules::Session;
 ghost use mathlib.Core.Path.{_≡_};
 ghost use mathlib.Core.Bool.{true, not, cond, _&&_};
@@ -14,17 +20,6 @@ ghost use Rattle.rules.specs.Receipt.{otcReceived};
 ghost use Rattle.rules.specs.Sending.{ownRoute, tagSent, otcSent};
 ghost use Rattle.policy.specs.Plan.{toldTag, toldOtc};
 ghost use Rattle.policy.specs.Judge.{receiptRule, sendingRule};
-
-// Roles (RFC 9234 section 4.1, table 1).
-const PROVIDER: u8 = 0;
-
-const RS: u8 = 1;
-
-const RS_CLIENT: u8 = 2;
-
-const CUSTOMER: u8 = 3;
-
-const PEER: u8 = 4;
 
 // The source that is no neighbour's role (01, "own route").
 const OWN_ROUTE: u8 = 255;
@@ -100,20 +95,6 @@ pub fn sending_ok(session: Session, source: u8, state: u8) -> bool
         both(session_ok(session), source_ok(source)),
         state <= UNAVAILABLE,
     )
-}
-
-// The counterpart of a role (RFC 9234 section 4.2, table 2). A value above 4, which has none, stands for itself.
-fn remote_role(role: u8) -> u8
-    ensures { λ r. ⌜ r ≡ counterpart role ⌝ }
-{
-    match role {
-        PROVIDER => CUSTOMER,
-        RS => RS_CLIENT,
-        RS_CLIENT => RS,
-        CUSTOMER => PROVIDER,
-        PEER => PEER,
-        _ => role,
-    }
 }
 
 // A role that routes go up or across to: Provider, Peer or RS.

@@ -1,4 +1,6 @@
-//! Receipt and sending of the proved library, as safe Rust. `include/bgp_policy.h` says what the arguments and answers mean.
+//! Opening, receipt and sending of the proved library, as safe Rust. `include/bgp_policy.h` says what the arguments and answers mean.
+
+pub mod lines;
 
 /// Document 01's size of an attribute block: an output buffer of this length is always enough.
 pub const BLOCK_MAX: usize = 4073;
@@ -17,6 +19,14 @@ pub struct Session {
 
 // A slice passes as its pointer and then its length.
 extern "C" {
+    fn bgp_open(
+        local_role: u8,
+        strict: u8,
+        parameters: *const u8,
+        parameters_len: usize,
+        beside: *mut usize,
+    ) -> u8;
+
     fn bgp_receive(
         local_as: u32,
         remote_as: u32,
@@ -46,6 +56,22 @@ extern "C" {
 
 // What `beside` holds before a call, so that a call that leaves it alone is seen.
 const UNSET: usize = usize::MAX;
+
+/// Opening of a session: the answer number and the number beside it (the remote role on answer 0).
+pub fn open(local_role: u8, strict: u8, parameters: &[u8]) -> (u8, usize) {
+    let mut beside = UNSET;
+    // Safe: the pointer and length are those of a slice, and `beside` lies outside it.
+    let answer = unsafe {
+        bgp_open(
+            local_role,
+            strict,
+            parameters.as_ptr(),
+            parameters.len(),
+            &mut beside,
+        )
+    };
+    (answer, beside)
+}
 
 /// Receipt of a block: the answer number and the number beside it (the written length on answer 0).
 pub fn receive(session: Session, block: &[u8], out: &mut [u8]) -> (u8, usize) {

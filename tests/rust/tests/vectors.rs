@@ -1,64 +1,10 @@
-//! Every line of ../vectors for receipt, sending and chains, through the library: the answer, the number beside it, and the
-//! output buffer to its end.
+//! Every line of ../vectors for opening, receipt, sending and chains, through the library: the answer, the number beside it,
+//! and the output buffer to its end.
+use bgp_policy::lines::{bytes, every, number, optional, Compared};
 use bgp_policy::{
-    counterpart, expected_buffer, hex, patterns, receive, send, shown, Session, BLOCK_MAX,
+    counterpart, expected_buffer, open, patterns, receive, send, shown, Session, BLOCK_MAX,
     OWN_ROUTE,
 };
-use std::path::Path;
-
-// The result of a line: nothing, or how it differs.
-type Compared = Result<(), String>;
-
-// The lines of one kind in one file, each handed to `compare` as its fields after the kind. All differing lines are told.
-fn every(file: &str, kind: &str, compare: fn(&[&str]) -> Compared) {
-    let path = Path::new(env!("CARGO_MANIFEST_DIR"))
-        .join("../vectors")
-        .join(file);
-    let text = std::fs::read_to_string(&path).unwrap_or_else(|e| panic!("{}: {e}", path.display()));
-    let mut ran = 0;
-    let mut differing = Vec::new();
-    for (number, line) in text.lines().enumerate() {
-        let fields: Vec<&str> = line.split('\t').collect();
-        if fields[0] != kind {
-            continue;
-        }
-        ran += 1;
-        if let Err(how) = compare(&fields[1..]) {
-            differing.push(format!("{file}:{}: {how}", number + 1));
-        }
-    }
-    println!(
-        "{file}: {ran} lines of kind {kind}, {} differ",
-        differing.len()
-    );
-    assert!(ran > 0, "{file} has no line of kind {kind}");
-    assert!(
-        differing.is_empty(),
-        "{} of {ran} lines differ:\n{}",
-        differing.len(),
-        differing.join("\n")
-    );
-}
-
-fn number<T: std::str::FromStr>(field: &str) -> T {
-    field
-        .parse()
-        .unwrap_or_else(|_| panic!("'{field}' is no number in range"))
-}
-
-// `-` where there is none
-fn optional(field: &str) -> Option<usize> {
-    (field != "-").then(|| number(field))
-}
-
-// `.` for no byte
-fn bytes(field: &str) -> Vec<u8> {
-    if field == "." {
-        Vec::new()
-    } else {
-        hex(field)
-    }
-}
 
 // One call in each of two buffers of `cap` bytes, against the three fields after `=>`: answer, number beside it, block stored.
 fn call(cap: &str, expected: &[&str], run: impl Fn(&mut [u8]) -> (u8, usize)) -> Compared {
@@ -87,6 +33,24 @@ fn call(cap: &str, expected: &[&str], run: impl Fn(&mut [u8]) -> (u8, usize)) ->
                 shown(&after[at..])
             ));
         }
+    }
+    Ok(())
+}
+
+// open: local role, strict, parameters => answer, number beside it, remote role
+fn open_line(fields: &[&str]) -> Compared {
+    let &[local_role, strict, parameters, "=>", answer, beside, remote_role] = fields else {
+        panic!("not the fields of open: {fields:?}");
+    };
+    let answer: u8 = number(answer);
+    // On answer 0 the remote role stands beside it, on a refusal the vector's number or, where it has none, 0.
+    let beside = match answer {
+        0 => number(remote_role),
+        _ => optional(beside).unwrap_or(0),
+    };
+    let got = open(number(local_role), number(strict), &bytes(parameters));
+    if got != (answer, beside) {
+        return Err(format!("answered {got:?}, expected {:?}", (answer, beside)));
     }
     Ok(())
 }
@@ -219,6 +183,11 @@ fn chain_line(fields: &[&str]) -> Compared {
 }
 
 #[test]
+fn functions_open() {
+    every("functions.tsv", "open", open_line);
+}
+
+#[test]
 fn functions_recv() {
     every("functions.tsv", "recv", recv_line);
 }
@@ -231,6 +200,11 @@ fn functions_send() {
 #[test]
 fn functions_chain() {
     every("functions.tsv", "chain", chain_line);
+}
+
+#[test]
+fn boundary_open() {
+    every("boundary.tsv", "open", open_line);
 }
 
 #[test]

@@ -6,7 +6,8 @@ use borrow.Author.Needs.{needs}
 use lib.ListN.{length, drop}
 use Rattle.rules.specs.Rows.{fit}
 use Rattle.rules.specs.Attributes.{attributeSize}
-use Rattle.attributes.proofs.Positions.{part-is, fit-here, fit-room}
+use Rattle.octets.proofs.Slices.{part-is}
+use Rattle.attributes.proofs.Positions.{fit-here, fit-room}
 use Rattle.attributes.proofs.Sizes.{item-length, item-least, item-whole}
 use Rattle.attributes.proofs.Walk.{Walk, walk-start, walk-torn, walk-repeated, walk-own, walk-on, walk-no-origin, walk-no-path, walk-clean}
 use Rattle.attributes.proofs.read.Statement.{statement}

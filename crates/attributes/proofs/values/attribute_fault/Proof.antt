@@ -2,7 +2,7 @@ use denote.Ref.{now}
 use lib.ListN.{getD}
 use lib.Seq.{drop-drop}
 use Rattle.rules.specs.Attributes.{lengthBytes, attribute}
-use Rattle.attributes.proofs.Positions.{tail-is}
+use Rattle.octets.proofs.Slices.{tail-is}
 use borrow.Author.Needs.{needs}
 use Rattle.attributes.proofs.values.attribute_fault.Statement.{statement}
 use Rattle.attributes.proofs.values.attribute_fault.Tie as tie

@@ -7,7 +7,7 @@ use denote.Ref.{now}
 use borrow.Author.Needs.{needs}
 use lib.ListN.{length, drop}
 use Rattle.rules.specs.Changes.{isTag, dropFrom}
-use Rattle.attributes.proofs.Positions.{part-length}
+use Rattle.octets.proofs.Slices.{part-length}
 use Rattle.policy.proofs.Left.{left-count, left-end}
 use Rattle.policy.proofs.communities.left_size.Statement.{statement}
 use Rattle.policy.proofs.communities.left_size.Tie as tie

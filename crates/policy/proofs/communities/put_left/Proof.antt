@@ -6,7 +6,7 @@ use borrow.Author.Needs.{needs}
 use lib.ListN.{length, drop, take}
 use Rattle.rules.specs.Changes.{isTag, dropFrom}
 use Rattle.octets.proofs.Writing.{Writing, writing-start, writing-rest, writing-room, writing-step, writing-end, writing-length}
-use Rattle.attributes.proofs.Positions.{part-length}
+use Rattle.octets.proofs.Slices.{part-length}
 use Rattle.policy.specs.Communities.{kept}
 use Rattle.policy.proofs.Left.{left-step, left-end}
 use Rattle.policy.proofs.communities.put_left.Statement.{statement}

@@ -3,7 +3,7 @@ use native.Mathlib.Omega.{arith}
 use denote.Ref.{now}
 use borrow.Author.Tests.{eq-eqb, ne-eqb}
 use Rattle.rules.specs.Bytes.{part}
-use Rattle.attributes.proofs.Positions.{part-is}
+use Rattle.octets.proofs.Slices.{part-is}
 use Rattle.policy.specs.Plan.{turnedSize}
 use borrow.Author.Needs.{needs}
 use Rattle.policy.proofs.planner.turned_size.Statement.{statement}

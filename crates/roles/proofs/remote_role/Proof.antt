@@ -2,9 +2,9 @@
 use mathlib.Core.Path.{sym}
 use native.Mathlib.Omega.{arith}
 use Rattle.rules.specs.Roles.{counterpart}
-use Rattle.policy.proofs.Judging.{counterpart-other}
-use Rattle.policy.proofs.judge.remote_role.Statement.{statement}
-use Rattle.policy.proofs.judge.remote_role.Tie as tie
+use Rattle.roles.proofs.Opening.{counterpart-other}
+use Rattle.roles.proofs.remote_role.Statement.{statement}
+use Rattle.roles.proofs.remote_role.Tie as tie
 
 returns : tie.Need-returns
 unfolding counterpart
