@@ -100,7 +100,7 @@ c-returns-4 t c =
     ∙ capabilities-other (now (c .before .before .before .before .before .before .before .before .before .before .before .args .c)) (now (c .before .before .before .before .before .before .before .before .before .before .before .args .after)) (c .before .before .before .before .before .before .before .before .before .before .before .args .seen) (c .before .before .before .before .before .wide .ensures .0) (omega arith) (c .before .before .if4 .taken)
 
 c-returns-5 : (t : ℕ) → c-lts.Need-returns-5 (c-claims t) (c-at t) c-reads.Post
-c-returns-5 t c = capabilities-long (now (c .before .before .before .before .before .before .before .before .before .before .args .c)) (now (c .before .before .before .before .before .before .before .before .before .before .args .after)) (c .before .before .before .before .before .before .before .before .before .before .args .seen) (c .before .before .before .before .wide .ensures .0) (omega arith) (c .before .if4 .left) (c .if5 .taken)
+c-returns-5 t c = capabilities-long (now (c .before .before .before .before .before .before .before .before .before .before .args .c)) (now (c .before .before .before .before .before .before .before .before .before .before .args .after)) (c .before .before .before .before .before .before .before .before .before .before .args .seen) (c .before .before .before .before .wide .ensures .0) (omega arith) (c .before .if4 .left) (λ z. omega (arith, z, c .if5 .taken))
 
 c-sub-read-capabilities-2 :
     (t : ℕ) → c-lts.Need-sub-read-capabilities-2 (c-claims t) (c-at t) c-reads.Post
@@ -129,7 +129,7 @@ c-returns-6 : (t : ℕ) → c-lts.Need-returns-6 (c-claims t) (c-at t) c-reads.P
 c-returns-6 t c =
     let s = c .before .before .before .before .before .before .before .before .before .before .before .before .before .before in
     rw (tail-is (now (s .args .c)) 3, c .before .note .ensures) at (c .read-capabilities2 .ensures)
-    ∙ capabilities-role (now (c .before .before .before .before .before .before .before .before .before .before .before .before .before .before .args .c)) (now (c .before .before .before .before .before .before .before .before .before .before .before .before .before .before .args .after)) (c .before .before .before .before .before .before .before .before .before .before .before .before .before .before .args .seen) (c .before .before .before .before .before .before .before .before .wide .ensures .0) (omega arith) (c .before .before .before .before .before .if4 .left) (c .before .before .before .before .if5 .left)
+    ∙ capabilities-role (now (c .before .before .before .before .before .before .before .before .before .before .before .before .before .before .args .c)) (now (c .before .before .before .before .before .before .before .before .before .before .before .before .before .before .args .after)) (c .before .before .before .before .before .before .before .before .before .before .before .before .before .before .args .seen) (c .before .before .before .before .before .before .before .before .wide .ensures .0) (omega arith) (c .before .before .before .before .before .if4 .left) (omega (arith, c .before .before .before .before .if5 .left))
 
 p-returns : (t : ℕ) → p-lts.Need-returns (p-claims t) (p-at t) p-reads.Post
 p-returns t c = parameters-end (now (c .before .before .args .s)) (c .before .before .args .seen) (c .if1 .taken)

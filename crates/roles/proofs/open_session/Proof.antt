@@ -1,3 +1,4 @@
+use native.Mathlib.Omega.{arith}
 use mathlib.Core.Path.{sym, _∙_, ap}
 use denote.Ref.{now}
 use borrow.Author.Tests.{not-true, not-false}
@@ -25,7 +26,7 @@ returns c = open-setting (c .before .before .before .args .local-role) (c .befor
 -- src/lib.rt:135:9
 returns-2 : tie.Need-returns-2
 unfolding toldOpened
-returns-2 c = open-length (c .before .before .before .before .args .local-role) (c .before .before .before .before .args .strict) (now (c .before .before .before .before .args .parameters)) (sym (c .before .before .settings-ok .ensures) ∙ not-false _ (c .before .if1 .left)) (c .if2 .taken)
+returns-2 c = open-length (c .before .before .before .before .args .local-role) (c .before .before .before .before .args .strict) (now (c .before .before .before .before .args .parameters)) (sym (c .before .before .settings-ok .ensures) ∙ not-false _ (c .before .if1 .left)) (omega (arith, c .if2 .taken))
 
 -- src/lib.rt:137:9
 read-parameters-requires : tie.Need-read-parameters-requires
@@ -38,7 +39,7 @@ enum-told c = search needs
 -- src/lib.rt:140:13
 returns-3 : tie.Need-returns-3
 unfolding toldOpened
-returns-3 c = open-malformed (c .before .before .before .before .before .before .before .args .local-role) (c .before .before .before .before .before .before .before .args .strict) (now (c .before .before .before .before .before .before .before .args .parameters)) (sym (c .before .before .before .before .before .settings-ok .ensures) ∙ not-false _ (c .before .before .before .before .if1 .left)) (c .before .before .before .if2 .left) (c .before .before .read-parameters .ensures) (c .enum-told .given .1)
+returns-3 c = open-malformed (c .before .before .before .before .before .before .before .args .local-role) (c .before .before .before .before .before .before .before .args .strict) (now (c .before .before .before .before .before .before .before .args .parameters)) (sym (c .before .before .before .before .before .settings-ok .ensures) ∙ not-false _ (c .before .before .before .before .if1 .left)) (omega (arith, c .before .before .before .if2 .left)) (c .before .before .read-parameters .ensures) (c .enum-told .given .1)
 
 -- src/lib.rt:142:22
 enum-known-read : tie.Need-enum-known-read
@@ -51,7 +52,7 @@ disagrees-requires c κs = search needs
 -- src/lib.rt:144:17
 returns-4 : tie.Need-returns-4
 unfolding toldOpened
-returns-4 c = open-rejected (c .before .before .before .before .before .before .before .before .before .before .args .local-role) (c .before .before .before .before .before .before .before .before .before .before .args .strict) (now (c .before .before .before .before .before .before .before .before .before .before .args .parameters)) (sym (c .before .before .before .before .before .before .before .before .settings-ok .ensures) ∙ not-false _ (c .before .before .before .before .before .before .before .if1 .left)) (c .before .before .before .before .before .before .if2 .left) (c .before .before .before .before .before .read-parameters .ensures) (c .before .before .before .read .given .1) (c .before .disagrees .ensures) (c .if3 .taken)
+returns-4 c = open-rejected (c .before .before .before .before .before .before .before .before .before .before .args .local-role) (c .before .before .before .before .before .before .before .before .before .before .args .strict) (now (c .before .before .before .before .before .before .before .before .before .before .args .parameters)) (sym (c .before .before .before .before .before .before .before .before .settings-ok .ensures) ∙ not-false _ (c .before .before .before .before .before .before .before .if1 .left)) (omega (arith, c .before .before .before .before .before .before .if2 .left)) (c .before .before .before .before .before .read-parameters .ensures) (c .before .before .before .read .given .1) (c .before .disagrees .ensures) (c .if3 .taken)
 
 -- src/lib.rt:146:26
 remote-role-requires : tie.Need-remote-role-requires
@@ -60,7 +61,7 @@ remote-role-requires c κs = search needs
 -- src/lib.rt:128:1
 returns-5 : tie.Need-returns-5
 unfolding toldOpened
-returns-5 c = ap done (c .remote-role .ensures) ∙ open-done (c .before .before .before .before .before .before .before .before .before .before .before .args .local-role) (c .before .before .before .before .before .before .before .before .before .before .before .args .strict) (now (c .before .before .before .before .before .before .before .before .before .before .before .args .parameters)) (sym (c .before .before .before .before .before .before .before .before .before .settings-ok .ensures) ∙ not-false _ (c .before .before .before .before .before .before .before .before .if1 .left)) (c .before .before .before .before .before .before .before .if2 .left) (c .before .before .before .before .before .before .read-parameters .ensures) (c .before .before .before .before .read .given .1) (c .before .before .disagrees .ensures) (c .before .if3 .left)
+returns-5 c = ap done (c .remote-role .ensures) ∙ open-done (c .before .before .before .before .before .before .before .before .before .before .before .args .local-role) (c .before .before .before .before .before .before .before .before .before .before .before .args .strict) (now (c .before .before .before .before .before .before .before .before .before .before .before .args .parameters)) (sym (c .before .before .before .before .before .before .before .before .before .settings-ok .ensures) ∙ not-false _ (c .before .before .before .before .before .before .before .before .if1 .left)) (omega (arith, c .before .before .before .before .before .before .before .if2 .left)) (c .before .before .before .before .before .before .read-parameters .ensures) (c .before .before .before .before .read .given .1) (c .before .before .disagrees .ensures) (c .before .if3 .left)
 
 pub open-session-spec : {M : Type 1} → statement M
 open-session-spec =

@@ -1,5 +1,6 @@
 -- `policy::writer::put_new_tag` meets its contract: by its three ways out, no bytes twice, and the eleven bytes. Assumes nothing.
 use Rattle.octets.proofs.Writing.{stored-none}
+use native.Mathlib.Omega.{arith}
 use borrow.Author.Needs.{needs}
 use Rattle.policy.proofs.Pieces.{new-tag-left, new-tag-untold, new-tag-is}
 use Rattle.policy.proofs.writer.put_new_tag.Statement.{statement}
@@ -13,7 +14,7 @@ returns c =
 returns-2 : tie.Need-returns-2
 returns-2 c =
     let a = c .before .before .before .args in
-    stored-none _ _ (new-tag-untold (a .left) (a .state) (c .if2 .taken))
+    stored-none _ _ (new-tag-untold (a .left) (a .state) (omega (arith, c .if2 .taken)))
 
 slice-aggregate-put : tie.Need-slice-aggregate-put
 slice-aggregate-put c = search needs
@@ -23,7 +24,7 @@ put-requires c κs =
     let e = c .before .before in
     let s = e .before .before .before in
     let a = s .args in
-    rw (new-tag-is (a .left) (a .state) (e .before .if1 .left) (e .if2 .left)) at (s .pre)
+    rw (new-tag-is (a .left) (a .state) (e .before .if1 .left) (omega (arith, e .if2 .left))) at (s .pre)
 
 same-length : tie.Need-same-length
 same-length c = search needs
@@ -33,7 +34,7 @@ returns-3 c =
     let p = c .before .before in
     let e = p .before .before .before in
     let a = e .before .before .before .args in
-    rw (new-tag-is (a .left) (a .state) (e .before .if1 .left) (e .if2 .left))
+    rw (new-tag-is (a .left) (a .state) (e .before .if1 .left) (omega (arith, e .if2 .left)))
     (p .put .ensures)
 
 pub put-new-tag-spec : {M : Type 1} → statement M
