@@ -18,7 +18,7 @@ use Rattle.rules.specs.Origin.{finalOrigin, originIn}
 use Rattle.rules.proofs.Lists.{is-empty-not}
 use Rattle.rules.proofs.Rows.{fit-le, fit-some, fit-none, fit-is, chop-stop, chop-step}
 use Rattle.octets.proofs.Slices.{part-is, part-length}
-use Rattle.attributes.proofs.Positions.{fit-here, fit-room, chop-at, chop-end, chop-next, chop-torn}
+use Rattle.attributes.proofs.Positions.{fit-here, fit-room, chop-end, chop-next, chop-torn, items-next, items-end}
 
 -- The ASNs of a segment from a position on.
 unfoldable pub asnsFrom : List ℕ → ℕ → List ℕ
@@ -26,17 +26,12 @@ asnsFrom g at = map bigEndian (chop (by 4) (drop at g) .items)
 
 module _ (g : List ℕ) (at : ℕ) where
   pub asns-next : at + 4 ≤ length g → asnsFrom g at ≡ bigEndian (take (at + 4 - at) (drop at g)) ∷ asnsFrom g (at + 4)
-  unfolding asnsFrom by withItem
-  asns-next h =
-      let l = length-drop at g in
-      let k = fit-some (by 4) (drop at g) (omega arith) in
-      rw (part-is g at 4) (ap (λ (r : Row). map bigEndian (r .items)) (chop-at (by 4) g at (sym k) (omega arith)))
+  unfolding asnsFrom
+  asns-next h = ap (map bigEndian) (items-next 4 g at (omega arith) (omega arith))
 
   pub asns-end : length g < at + 4 → asnsFrom g at ≡ []
-  unfolding asnsFrom by
-  asns-end h =
-      let l = length-drop at g in
-      ap (λ (r : Row). map bigEndian (r .items)) (chop-stop (by 4) (drop at g) (fit-none (by 4) (drop at g) (omega arith)))
+  unfolding asnsFrom
+  asns-end h = ap (map bigEndian) (items-end 4 g at (omega arith))
 
   -- No ASN is 0: by the one at the position, or by those after it.
   module _ {x : ℕ} (h : at + 4 ≤ length g) (e : x ≡ bigEndian (take (at + 4 - at) (drop at g))) where

@@ -1,9 +1,11 @@
-// The faults that an attribute has by its value (01, "Reading an attribute block", faults 3 to 6).
+// What the value of an attribute says: the faults that it has (01, "Reading an attribute block", faults 3 to 6), and which of its
+// communities are tags.
 use super::as_path::as_path_ok;
 ghost use mathlib.Core.Path.{_≡_};
 ghost use Prim.Native.Nat.{_+_, _≤_};
 ghost use lib.ListN.{length, getD};
 ghost use Rattle.rules.specs.Attributes.{long, lengthBytes, attribute, originOk, otcOk, communitiesOk, valueFault};
+ghost use Rattle.rules.specs.Changes.{isTag};
 ghost use Rattle.attributes.specs.Steps.{unless};
 
 // The Extended Length bit, 0x10, makes the length two bytes (RFC 4271 section 4.3).
@@ -73,4 +75,15 @@ pub fn attribute_fault(a: &[u8]) -> u8
 {
     let at = header_size(a[0]);
     value_fault(a[1], &a[at..])
+}
+
+// Whether a community is a tag: it begins 43 00 (RFC 8097 section 2). Internal.
+pub fn is_tag(c: &[u8]) -> bool
+    requires { ⌜ 2 ≤ length (now c) ⌝ }
+    ensures { λ r. ⌜ r ≡ isTag (now (c .entry)) ⌝ }
+{
+    if c[0] != 0x43 {
+        return false;
+    }
+    c[1] == 0
 }

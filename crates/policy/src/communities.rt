@@ -1,5 +1,6 @@
 // A communities attribute as it goes out: without its tags, with a tag last (01, "Receipt" and "Sending"; RFC 8097).
 use attributes::values::is_long;
+use attributes::values::is_tag;
 use octets::buffer::put;
 ghost use mathlib.Core.Path.{_≡_};
 ghost use mathlib.Core.List.{_++_};
@@ -9,17 +10,6 @@ ghost use Rattle.rules.specs.Changes.{isTag, dropFrom};
 ghost use Rattle.octets.specs.Buffer.{Stored};
 ghost use Rattle.policy.specs.Plan.{tagBytes, leftOf, communityBytes, Whole};
 ghost use Rattle.policy.specs.Communities.{kept, header};
-
-// Whether a community is a tag: it begins 43 00. Internal.
-fn is_tag(c: &[u8]) -> bool
-    requires { ⌜ 2 ≤ length (now c) ⌝ }
-    ensures { λ r. ⌜ r ≡ isTag (now (c .entry)) ⌝ }
-{
-    if c[0] != 0x43 {
-        return false;
-    }
-    c[1] == 0
-}
 
 // How many bytes are left of a community. Internal.
 fn kept_size(c: &[u8]) -> usize

@@ -9,7 +9,7 @@ use Rattle.rules.specs.Bytes.{keep}
 use Rattle.rules.specs.Rows.{Row, chop, chopUpTo, by}
 use Rattle.rules.specs.Changes.{communities, dropFrom}
 use Rattle.rules.proofs.Lists.{nil-of-length, keep-within, keep-fewer, keep-append}
-use Rattle.rules.proofs.Fixed.{Each, Cut, chop-cut, chop-flatten, length-flatten, each-keep}
+use Rattle.rules.proofs.Fixed.{Each, Cut, chop-cut, chop-flatten, chop-length, length-flatten, each-keep}
 
 eights : (v : List ℕ) → Cut 8 v (chop (by 8) v)
 eights v = chop-cut 8 (omega arith) v
@@ -24,9 +24,7 @@ communities-flatten l e = ap (λ (r : Row). r .items) (chop-flatten 8 (omega ari
 
 communities-length : (v : List ℕ) → length v ≡ 8 * length (communities v) + length (chop (by 8) v .left)
 unfolding communities
-communities-length v =
-    ap length (sym (eights v .joined)) ∙ length-append (flatten (communities v)) (chop (by 8) v .left)
-    ∙ ap (λ (n : ℕ). n + length (chop (by 8) v .left)) (length-flatten 8 (communities v) (communities-each v))
+communities-length v = chop-length 8 (omega arith) v
 
 flatten-communities : (v : List ℕ) → length v % 8 ≡ 0 → flatten (communities v) ≡ v
 unfolding communities

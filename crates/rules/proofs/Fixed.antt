@@ -65,6 +65,13 @@ length-flatten n (c ∷ l) e = length-append c (flatten l) ∙ rw (e .0, length-
     mul-suc′ : (a b : ℕ) → a + a * b ≡ a * suc b
     mul-suc′ a b = sym (mul-suc a b ∙ add-comm (a * b) a)
 
+-- How many bytes they are, with those left.
+pub chop-length : (n : ℕ) → 0 < n → (s : List ℕ) → length s ≡ n * length (chop (by n) s .items) + length (chop (by n) s .left)
+chop-length n p s =
+    let c = chop-cut n p s in
+    ap length (sym (c .joined)) ∙ length-append (flatten (chop (by n) s .items)) (chop (by n) s .left)
+    ∙ ap (λ (k : ℕ). k + length (chop (by n) s .left)) (length-flatten n (chop (by n) s .items) (c .each))
+
 pub each-keep : (n : ℕ) (p : List ℕ → Bool) (l : List (List ℕ)) → Each n l → Each n (keep p l)
 unfolding keep
 each-keep n p [] e = tt
