@@ -1,6 +1,7 @@
 /*
- * Opening of BGP sessions under RFC 9234 roles, and receipt and sending of their attribute blocks, for C. The functions are
- * in libc_api.a, which `rt staticlib c_api` writes to target/staticlib.
+ * Routing policy for BGP, for C: opening of sessions under RFC 9234 roles, receipt and sending of their attribute blocks, the
+ * origin state of IPv4 routes (RFC 6811) and the state that a received tag tells (RFC 8097). The functions are in libc_api.a,
+ * which `rt staticlib c_api` writes to target/staticlib.
  */
 #ifndef BGP_POLICY_H
 #define BGP_POLICY_H
@@ -15,10 +16,12 @@ extern "C" {
 /*
  * Arguments
  *
- * Of all three functions
+ * Of all functions
+ * beside                where the number beside the answer goes
+ *
+ * Of opening, receipt and sending
  * local_role            this end's role; the other end has its counterpart (0 with 3, 1 with 2, 4 with 4):
  *                       0 Provider, 1 RS (route server), 2 RS-Client, 3 Customer, 4 Peer
- * beside                where the number beside the answer goes
  *
  * Of opening
  * strict                1 where the other end must name its role, else 0
@@ -28,12 +31,20 @@ extern "C" {
  * Of receipt and sending
  * local_as, remote_as   the two AS numbers of the session: not 0, and not equal
  * mode                  0 the house default, which is 1; 1 simple tagging; 2 drop invalid; 3 prioritise
- * block, block_len      the attribute block: where it begins, and how many bytes it has, at most 4,073
  * out, out_len          the output buffer: where it begins, and how many bytes it has; 4,073 is always enough
  *
- * Settings of any value, parameters and a block of any bytes and a buffer of any length have an answer. But every pointer
- * must be usable (never NULL, also where the length is 0), out must not overlap block, and *beside must lie in none of
- * parameters, block and out.
+ * Of all but opening
+ * block, block_len      the attribute block: where it begins, and how many bytes it has, at most 4,073
+ *
+ * Of origin state
+ * prefix_length         0 to 32
+ * prefix                the route's prefix as a number, its first byte the highest; bits after the length do not count
+ * own_as                the AS that is the origin of a route with an empty path: not 0
+ * table, table_len      VRPs of 10 bytes each: prefix 4, length, maximum length, ASN 4, high byte first; at most 4,096 of them
+ *
+ * Settings of any value, parameters, a table and a block of any bytes and a buffer of any length have an answer. But every
+ * pointer must be usable (never NULL, also where the length is 0), out must not overlap block, and *beside must lie in none
+ * of parameters, table, block and out.
  *
  * Answers, and what *beside becomes
  *
@@ -41,19 +52,25 @@ extern "C" {
  *       opening: the two ends agree                         the other end's role
  *       receipt, sending: the new block is at the start
  *       of out                                              its length in bytes
+ *       origin state, received tag                          the state: 0 valid, 1 not found, 2 invalid; of a tag also 3,
+ *                                                           unavailable
  *  1  ineligible, a leak (receipt only)                     the rule of receipt, 1 or 2
  *  2  withheld (sending only)                               the rule of sending, 1, 2 or 3
- *  3  attributes malformed, treat as withdraw (receipt
- *     and sending)                                          the fault, 1 to 6
+ *  3  attributes malformed, treat as withdraw (all but
+ *     opening)                                              the fault, 1 to 6
  *  4  session rejected, NOTIFICATION 2/11 (opening only)    0
- *  5  a setting is out of range (all three)                 0
+ *  5  a setting is out of range (all but received tag)      0
  *  6  too long: parameters of more than 255 bytes, a block
- *     of more than 4,073 (all three)                        0
+ *     of more than 4,073, a table of more than 4,096 VRPs;
+ *     or a table whose length is no multiple of 10          0
  *  7  no room: the result is longer than out or than 4,073
  *     (receipt and sending)                                 0
  *  8  OPEN parameters malformed (opening only)              0
+ *  9  bad VRP record: its length above its maximum, or its
+ *     maximum above 32 (origin state only)                  the index of the first one, from 0
  *
- * Where several apply, opening gives the first of 5, 6, 8, 4, and receipt and sending the first of 5, 6, 3, 1 or 2, 7.
+ * Where several apply, opening gives the first of 5, 6, 8, 4, receipt and sending the first of 5, 6, 3, 1 or 2, 7, and origin
+ * state the first of 5, 6, 9, 3.
  * Every call sets *beside. Only answer 0 stores anything in out, and then the bytes past the length in *beside stay as
  * they were.
  */
@@ -80,6 +97,15 @@ uint8_t bgp_send(uint32_t local_as, uint32_t remote_as, uint8_t local_role, uint
                  const uint8_t *block, size_t block_len,
                  uint8_t *out, size_t out_len,
                  size_t *beside);
+
+/* Origin state: whether the VRPs of a table say that the AS at the end of the block's AS_PATH may originate the route. */
+uint8_t bgp_origin_state(uint8_t prefix_length, uint32_t prefix, uint32_t own_as,
+                         const uint8_t *table, size_t table_len,
+                         const uint8_t *block, size_t block_len,
+                         size_t *beside);
+
+/* Received tag: the greatest state, up to 2, that the tags among the block's extended communities tell. */
+uint8_t bgp_received_tag(const uint8_t *block, size_t block_len, size_t *beside);
 
 #ifdef __cplusplus
 }

@@ -12,12 +12,15 @@ use lib.Dec.{eqb, ltb}
 use borrow.Author.Tests.{eq-eqb, ne-eqb, eqb-true, lt-ltb, le-ltb, ltb-true, ltb-false}
 use Rattle.rules.specs.Bytes.{bigEndian, exists}
 use Rattle.rules.specs.Rows.{fit}
-use Rattle.rules.specs.Attributes.{Attribute, attribute, attributes, attributeSize, lengthBytes, encode, encodeOne, isType, has, valueOf, valueFault, otcOk, otcAs, readable}
+use Rattle.rules.specs.Attributes.{Attribute, attribute, attributes, attributeSize, lengthBytes, encode, encodeOne, isType, has, valueOf, valueFault, otcOk, otcAs, fault, readable}
 use Rattle.rules.proofs.Rows.{fit-none, fit-some, fit-le}
 use Rattle.rules.proofs.Blocks.{All, Framed, all-map, size-front, attribute-encode}
 use Rattle.rules.proofs.Readable.{Fine, read-good}
 use Rattle.rules.proofs.Parts.{size, size-cons}
-use Rattle.attributes.specs.Layout.{place, placeOf, SizeAt, firstValue, valueAt}
+use Rattle.attributes.specs.Layout.{place, placeOf, layout, reading, Read, SizeAt, firstValue, valueAt}
+use Rattle.attributes.specs.declared.Layout.{Layout}
+use Rattle.attributes.specs.declared.Reading.{Reading}
+use Rattle.attributes.specs.declared.Reading.the-variants.{Clean, Fault}
 use Rattle.attributes.proofs.Positions.{fit-here, fit-room}
 use Rattle.attributes.proofs.Sizes.{size-least, item-header}
 
@@ -149,3 +152,21 @@ otc-as-of b r = go (valueOf 35 (attributes b)) (otc-four (attributes b) (read-go
     go : (v : List ℕ) → (length v ≡ 4) ⊎ (v ≡ []) → cond (eqb (length v) 4) (bigEndian v) 0 ≡ bigEndian v
     go v (inl e) = rw (eq-eqb (length v) 4 e) refl
     go v (inr e) = unfold bigEndian in rw e refl
+
+-- What reading says, taken apart: a fault that is the block's, or the layout of a readable block.
+module _ {b : List ℕ} {r : Reading} (p : Read b r) where
+  pub fault-read : {f : ℕ} → r ≡ Fault f → (readable b ≡ false) × (fault b ≡ f)
+  unfolding reading readable
+  fault-read {f} q = go (eqb (fault b) 0) (sym q ∙ p .is)
+    where
+      go : (x : Bool) → Fault f ≡ cond x (Clean (layout (attributes b))) (Fault (fault b)) → (x ≡ false) × (fault b ≡ f)
+      go true z = let n : _≡_ {A = ℕ} 0 1 = cc in absurd (omega arith)
+      go false z = (refl, cc)
+
+  pub clean-read : {l : Layout} → r ≡ Clean l → (readable b ≡ true) × (l ≡ layout (attributes b))
+  unfolding reading readable
+  clean-read {l} q = go (eqb (fault b) 0) (sym q ∙ p .is)
+    where
+      go : (x : Bool) → Clean l ≡ cond x (Clean (layout (attributes b))) (Fault (fault b)) → (x ≡ true) × (l ≡ layout (attributes b))
+      go true z = (refl, cc)
+      go false z = let n : _≡_ {A = ℕ} 0 1 = cc in absurd (omega arith)

@@ -7,7 +7,7 @@ use Rattle.rules.specs.Answers.{Answer, done, refused, answerNumber, beside}
 use Rattle.rules.specs.Attributes.{Attribute}
 use Rattle.rules.specs.Changes.{Leaves}
 
--- The column "Beside it": the result of answer 0, here the remote role or the length that was stored, or the number beside the
+-- The column "Beside it": the result of answer 0, here the remote role, the length that was stored or the state, or the number beside the
 -- refusal; 0 where the table has none.
 unfoldable pub besideNumber : Answer ℕ → ℕ
 besideNumber (done n) = n

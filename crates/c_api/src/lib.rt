@@ -1,13 +1,15 @@
-// Opening, receipt and sending for callers in C and Rust: numbers, slices and one number handed back. include/bgp_policy.h declares them.
+// The library for callers in C and Rust: numbers, slices and one number handed back. include/bgp_policy.h declares it.
 ghost use mathlib.Core.Path.{_≡_};
-ghost use Rattle.rules.specs.Answers.{refused, number, answerNumber, toldOpened, toldWritten};
+ghost use Rattle.rules.specs.Answers.{refused, number, answerNumber, toldOpened, toldWritten, toldStated};
 ghost use Rattle.rules.specs.Roles.{openSession};
 ghost use Rattle.rules.specs.Receipt.{receiptVerdict};
 ghost use Rattle.rules.specs.Sending.{sendingVerdict};
+ghost use Rattle.rules.specs.Origin.{ipv4, originState, receivedTag};
 ghost use Rattle.c_api.specs.Numbers.{besideNumber, Reported};
 use rules::Opened;
 use rules::Refusal;
 use rules::Session;
+use rules::Stated;
 use rules::Written;
 
 // A refusal as numbers: its number as the result, and through `beside` the number beside it, 0 where it has none.
@@ -72,6 +74,19 @@ fn report(answer: Written, beside: &mut usize) -> u8
     }
 }
 
+// An answer that tells a state, as numbers: likewise, with the state on answer 0.
+fn report_stated(answer: Stated, beside: &mut usize) -> u8
+    ensures { λ r. ⌜ (r ≡ answerNumber (toldStated answer)) × (now (beside .exit) ≡ besideNumber (toldStated answer)) ⌝ }
+{
+    match answer {
+        Stated::State(state) => {
+            *beside = state as usize;
+            0
+        }
+        Stated::Refused(refusal) => report_refusal(refusal, beside),
+    }
+}
+
 // Opening of a session: the role agreement in the OPEN's optional parameters.
 #[no_mangle]
 pub extern "C" fn bgp_open(local_role: u8, strict: u8, parameters: &[u8], beside: &mut usize) -> u8
@@ -127,4 +142,29 @@ pub extern "C" fn bgp_send(
     };
     let answer = policy::send(session, source, state, block, out);
     report(answer, beside)
+}
+
+// The origin state of an IPv4 route, by a table of VRPs.
+#[no_mangle]
+pub extern "C" fn bgp_origin_state(
+    prefix_length: u8,
+    prefix: u32,
+    own_as: u32,
+    table: &[u8],
+    block: &[u8],
+    beside: &mut usize,
+) -> u8
+    ensures { λ r. ⌜ (r ≡ answerNumber (originState ipv4 «prefix_length» prefix «own_as» (now (table .entry)) (now (block .entry)))) × (now (beside .exit) ≡ besideNumber (originState ipv4 «prefix_length» prefix «own_as» (now (table .entry)) (now (block .entry)))) ⌝ }
+{
+    let answer = origin::origin_state(prefix_length, prefix, own_as, table, block);
+    report_stated(answer, beside)
+}
+
+// The state that the tags received in a block tell.
+#[no_mangle]
+pub extern "C" fn bgp_received_tag(block: &[u8], beside: &mut usize) -> u8
+    ensures { λ r. ⌜ (r ≡ answerNumber (receivedTag (now (block .entry)))) × (now (beside .exit) ≡ besideNumber (receivedTag (now (block .entry)))) ⌝ }
+{
+    let answer = origin::received_tag(block);
+    report_stated(answer, beside)
 }

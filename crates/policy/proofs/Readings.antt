@@ -13,11 +13,11 @@ use Rattle.rules.specs.Settings.{blockMax}
 use Rattle.rules.specs.Attributes.{attributes, fault, readable, hasOtc, otcAs, valueOf, otcType}
 use Rattle.rules.specs.declared.Session.{Session}
 use Rattle.rules.specs.declared.Refusal.the-variants.{Malformed, BadSetting, BadLength}
-use Rattle.attributes.specs.Layout.{layout, reading, Read, valueAt}
+use Rattle.attributes.specs.Layout.{layout, Read, valueAt}
 use Rattle.attributes.specs.declared.Layout.{Layout}
 use Rattle.attributes.specs.declared.Reading.{Reading}
 use Rattle.attributes.specs.declared.Reading.the-variants.{Clean, Fault}
-use Rattle.attributes.proofs.Found.{value-of, has-of, otc-as-of}
+use Rattle.attributes.proofs.Found.{value-of, has-of, otc-as-of, fault-read, clean-read}
 use Rattle.policy.specs.Judge.{receiptRule, sendingRule}
 use Rattle.policy.specs.Checks.{checkedFirst, Passed, Checking}
 use Rattle.policy.specs.declared.checks.Checked.the-variants.{Refused, Clean as Passes}
@@ -35,22 +35,16 @@ module _ (b : List ℕ) where
 
     module _ (h : length b ≤ blockMax) where
       pub read-fault : {r : Reading} {f : ℕ} → Read b r → r ≡ Fault f → Checking ok b (Refused (Malformed f))
-      unfolding reading checkedFirst
-      read-fault {r} {f} p q rules = rw (e, le-ltb blockMax (length b) h) (go (eqb (fault b) 0) (sym q ∙ p .is))
-        where
-          go : (x : Bool) → Fault f ≡ cond x (Clean (layout (attributes b))) (Fault (fault b)) → cond (not x) (refused (Malformed (fault b))) rules ≡ refused (Malformed f)
-          go true z = let n : _≡_ {A = ℕ} 0 1 = cc in absurd (omega arith)
-          go false z = let n : f ≡ fault b = cc in rw n refl
+      unfolding checkedFirst readable
+      read-fault p q rules =
+          let k = fault-read p q in
+          rw (e, le-ltb blockMax (length b) h, k .0, k .1) refl
 
       pub read-clean : {r : Reading} {l : Layout} → Read b r → r ≡ Clean l → Checking ok b (Passes l)
-      unfolding reading readable checkedFirst
-      read-clean {r} {l} p q = go (eqb (fault b) 0) refl (sym q ∙ p .is)
-        where
-          go : (x : Bool) → eqb (fault b) 0 ≡ x → Clean l ≡ cond x (Clean (layout (attributes b))) (Fault (fault b)) → Passed ok b l
-          go true g z =
-              let n : l ≡ layout (attributes b) = cc in
-              record { okay = e; small = h; good = g; is = n; decides = λ rules. rw (e, le-ltb blockMax (length b) h, g) refl }
-          go false g z = let n : _≡_ {A = ℕ} 0 1 = cc in absurd (omega arith)
+      unfolding checkedFirst readable
+      read-clean p q =
+          let k = clean-read p q in
+          record { okay = e; small = h; good = k .0; is = k .1; decides = λ rules. rw (e, le-ltb blockMax (length b) h, k .0) refl }
 
 -- The rule of receipt, and of sending, that the code finds is that of the attributes.
 module _ (s : Session) {ok : Bool} {b : List ℕ} {l : Layout} (w : Passed ok b l) where

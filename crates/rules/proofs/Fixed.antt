@@ -1,16 +1,17 @@
 -- Rows of items of one size: ASNs, communities, VRPs.
-use Prim.Native.Nat.{ℕ, zero, suc, _+_, _-_, _*_, _≤_, _<_}
+use Prim.Native.Nat.{ℕ, zero, suc, _+_, _-_, _*_, _%_, _≤_, _<_}
 use mathlib.Core.Path.{_≡_, refl, sym, ap, _∙_, subst}
 use mathlib.Core.List.{List, [], _∷_, _++_, flatten, append-assoc}
 use mathlib.Core.Bool.{Bool, true, false, cond}
 use native.Mathlib.Omega.{arith}
-use native.Mathlib.Nat.{mul-suc, add-comm}
+use native.Mathlib.Nat.{mul-suc, add-comm, mod-eq-of-lt, mul-add-mod-self-left}
 use lib.ListN.{length, take, drop, length-drop, length-append, take-append-drop}
 use lib.Seq.{length-take-le}
 use lib.Dec.{leb}
 use borrow.Author.Tests.{leb-true, leb-false}
-use Rattle.rules.specs.Bytes.{keep}
-use Rattle.rules.specs.Rows.{Row, fit, withItem, chop, chopUpTo, by}
+use Rattle.rules.specs.Bytes.{isEmpty, keep}
+use Rattle.rules.specs.Rows.{Row, fit, withItem, chop, chopUpTo, whole, by}
+use Rattle.rules.proofs.Lists.{nil-of-length, is-empty-not}
 use Rattle.rules.proofs.Rows.{fit-none, fit-some, chop-stop, chop-step, chop-front}
 
 -- Every item has n bytes.
@@ -71,6 +72,24 @@ chop-length n p s =
     let c = chop-cut n p s in
     ap length (sym (c .joined)) ∙ length-append (flatten (chop (by n) s .items)) (chop (by n) s .left)
     ∙ ap (λ (k : ℕ). k + length (chop (by n) s .left)) (length-flatten n (chop (by n) s .items) (c .each))
+
+-- No byte is left where the length is a multiple.
+left-mod : (n : ℕ) → 0 < n → (s : List ℕ) → length (chop (by n) s .left) ≡ length s % n
+left-mod n p s =
+    let c = chop-cut n p s in
+    sym (ap (λ (k : ℕ). k % n) (chop-length n p s) ∙ mul-add-mod-self-left n (length (chop (by n) s .items)) (length (chop (by n) s .left)) ∙ mod-eq-of-lt (c .short))
+
+pub whole-mod : (n : ℕ) → 0 < n → (s : List ℕ) → length s % n ≡ 0 → whole (chop (by n) s) ≡ true
+unfolding whole isEmpty
+whole-mod n p s z = rw (nil-of-length (chop (by n) s .left) (left-mod n p s ∙ z)) refl
+
+pub not-whole-mod : (n : ℕ) → 0 < n → (s : List ℕ) → (length s % n ≡ 0 → ⊥) → whole (chop (by n) s) ≡ false
+unfolding whole
+not-whole-mod n p s h = is-empty-not (chop (by n) s .left) (omega (arith, left-mod n p s, h))
+
+-- How many items a whole row has.
+pub whole-length : (n : ℕ) → 0 < n → (s : List ℕ) → length s % n ≡ 0 → length s ≡ n * length (chop (by n) s .items)
+whole-length n p s z = omega (arith, chop-length n p s, left-mod n p s)
 
 pub each-keep : (n : ℕ) (p : List ℕ → Bool) (l : List (List ℕ)) → Each n l → Each n (keep p l)
 unfolding keep

@@ -1,4 +1,4 @@
-//! Opening, receipt and sending of the proved library, as safe Rust. `include/bgp_policy.h` says what the arguments and answers mean.
+//! The proved library as safe Rust. `include/bgp_policy.h` says what the arguments and answers mean.
 
 pub mod lines;
 
@@ -52,6 +52,19 @@ extern "C" {
         out_len: usize,
         beside: *mut usize,
     ) -> u8;
+
+    fn bgp_origin_state(
+        prefix_length: u8,
+        prefix: u32,
+        own_as: u32,
+        table: *const u8,
+        table_len: usize,
+        block: *const u8,
+        block_len: usize,
+        beside: *mut usize,
+    ) -> u8;
+
+    fn bgp_received_tag(block: *const u8, block_len: usize, beside: *mut usize) -> u8;
 }
 
 // What `beside` holds before a call, so that a call that leaves it alone is seen.
@@ -115,6 +128,39 @@ pub fn send(session: Session, source: u8, state: u8, block: &[u8], out: &mut [u8
     (answer, beside)
 }
 
+/// The origin state of the route `prefix`/`prefix_length`: the answer number and the number beside it (the state on answer 0).
+pub fn origin_state(
+    prefix_length: u8,
+    prefix: u32,
+    own_as: u32,
+    table: &[u8],
+    block: &[u8],
+) -> (u8, usize) {
+    let mut beside = UNSET;
+    // Safe: as in `open`.
+    let answer = unsafe {
+        bgp_origin_state(
+            prefix_length,
+            prefix,
+            own_as,
+            table.as_ptr(),
+            table.len(),
+            block.as_ptr(),
+            block.len(),
+            &mut beside,
+        )
+    };
+    (answer, beside)
+}
+
+/// The state that the tags received in a block tell: the answer number and the number beside it (the state on answer 0).
+pub fn received_tag(block: &[u8]) -> (u8, usize) {
+    let mut beside = UNSET;
+    // Safe: as in `open`.
+    let answer = unsafe { bgp_received_tag(block.as_ptr(), block.len(), &mut beside) };
+    (answer, beside)
+}
+
 /// The other role of a pair; a value that is no role stays.
 pub fn counterpart(role: u8) -> u8 {
     match role {
@@ -137,6 +183,15 @@ pub fn shown(bytes: &[u8]) -> String {
     let head: String = bytes.iter().take(96).map(|b| format!("{b:02X}")).collect();
     let cut = if bytes.len() > 96 { ".." } else { "" };
     format!("{head}{cut} ({} bytes)", bytes.len())
+}
+
+/// A readable block of `length` bytes with no OTC: ORIGIN, an empty AS_PATH, and one attribute of type 32 that fills the rest.
+pub fn block_of(length: usize) -> Vec<u8> {
+    let mut block = hex("40010100400200");
+    let value = length - block.len() - 4;
+    block.extend([0xD0, 32, (value / 256) as u8, (value % 256) as u8]);
+    block.resize(length, 0x5A);
+    block
 }
 
 /// Two buffers of a length that differ in every byte: what a call leaves alone in both of them it has not written.

@@ -1,6 +1,6 @@
 //! The cases that document 01 names, run at the functions with the results stored here.
 use bgp_policy::{
-    expected_buffer, hex, patterns, receive, send, shown, Session, BLOCK_MAX, OWN_ROUTE,
+    block_of, expected_buffer, hex, patterns, receive, send, shown, Session, BLOCK_MAX, OWN_ROUTE,
 };
 
 const PROVIDER: u8 = 0;
@@ -44,15 +44,6 @@ fn refuses(cap: usize, answer: u8, beside: usize, run: impl Fn(&mut [u8]) -> (u8
 
 // An ORIGIN and an empty AS_PATH.
 const OWN: &str = "40010100400200";
-
-// A readable block of `length` bytes with no OTC: ORIGIN, an empty AS_PATH, and one attribute of type 32 that fills the rest.
-fn block_of(length: usize) -> Vec<u8> {
-    let mut block = hex(OWN);
-    let value = length - block.len() - 4;
-    block.extend([0xD0, 32, (value / 256) as u8, (value % 256) as u8]);
-    block.resize(length, 0x5A);
-    block
-}
 
 // ORIGIN, an empty AS_PATH and a short communities attribute of `count` communities, none of them a tag.
 fn with_communities(count: u8) -> Vec<u8> {

@@ -1,9 +1,9 @@
-//! Every line of ../vectors for opening, receipt, sending and chains, through the library: the answer, the number beside it,
-//! and the output buffer to its end.
+//! Every line of ../vectors for opening, receipt, sending, chains, origin state and tags, through the library: the answer, the
+//! number beside it, and the output buffer to its end.
 use bgp_policy::lines::{bytes, every, number, optional, Compared};
 use bgp_policy::{
-    counterpart, expected_buffer, open, patterns, receive, send, shown, Session, BLOCK_MAX,
-    OWN_ROUTE,
+    counterpart, expected_buffer, open, origin_state, patterns, receive, received_tag, send, shown,
+    Session, BLOCK_MAX, OWN_ROUTE,
 };
 
 // One call in each of two buffers of `cap` bytes, against the three fields after `=>`: answer, number beside it, block stored.
@@ -37,22 +37,48 @@ fn call(cap: &str, expected: &[&str], run: impl Fn(&mut [u8]) -> (u8, usize)) ->
     Ok(())
 }
 
-// open: local role, strict, parameters => answer, number beside it, remote role
-fn open_line(fields: &[&str]) -> Compared {
-    let &[local_role, strict, parameters, "=>", answer, beside, remote_role] = fields else {
-        panic!("not the fields of open: {fields:?}");
+// A call that tells one number, against the three fields after `=>`: answer, number beside it, result.
+fn told(expected: &[&str], got: (u8, usize)) -> Compared {
+    let &[answer, beside, result] = expected else {
+        panic!("{} fields after =>", expected.len());
     };
     let answer: u8 = number(answer);
-    // On answer 0 the remote role stands beside it, on a refusal the vector's number or, where it has none, 0.
+    // On answer 0 the result stands beside it, on a refusal the vector's number or, where it has none, 0.
     let beside = match answer {
-        0 => number(remote_role),
+        0 => number(result),
         _ => optional(beside).unwrap_or(0),
     };
-    let got = open(number(local_role), number(strict), &bytes(parameters));
     if got != (answer, beside) {
         return Err(format!("answered {got:?}, expected {:?}", (answer, beside)));
     }
     Ok(())
+}
+
+// open: local role, strict, parameters; result: remote role
+fn open_line(fields: &[&str]) -> Compared {
+    let &[local_role, strict, parameters, "=>", ..] = fields else {
+        panic!("not the fields of open: {fields:?}");
+    };
+    let got = open(number(local_role), number(strict), &bytes(parameters));
+    told(&fields[4..], got)
+}
+
+// state: prefix length, prefix, own AS, table, block; result: state
+fn state_line(fields: &[&str]) -> Compared {
+    let &[length, prefix, own_as, table, block, "=>", ..] = fields else {
+        panic!("not the fields of state: {fields:?}");
+    };
+    let (length, prefix, own_as) = (number(length), number(prefix), number(own_as));
+    let got = origin_state(length, prefix, own_as, &bytes(table), &bytes(block));
+    told(&fields[6..], got)
+}
+
+// tag: block; result: state
+fn tag_line(fields: &[&str]) -> Compared {
+    let &[block, "=>", ..] = fields else {
+        panic!("not the fields of tag: {fields:?}");
+    };
+    told(&fields[2..], received_tag(&bytes(block)))
 }
 
 // recv: local AS, remote AS, remote role, cap, block
@@ -200,6 +226,26 @@ fn functions_send() {
 #[test]
 fn functions_chain() {
     every("functions.tsv", "chain", chain_line);
+}
+
+#[test]
+fn functions_state() {
+    every("functions.tsv", "state", state_line);
+}
+
+#[test]
+fn functions_tag() {
+    every("functions.tsv", "tag", tag_line);
+}
+
+#[test]
+fn boundary_state() {
+    every("boundary.tsv", "state", state_line);
+}
+
+#[test]
+fn boundary_tag() {
+    every("boundary.tsv", "tag", tag_line);
 }
 
 #[test]
