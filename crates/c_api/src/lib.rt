@@ -1,11 +1,11 @@
 // The library for callers in C and Rust: numbers, slices and one number handed back. include/bgp_policy.h declares it.
 ghost use mathlib.Core.Path.{_≡_};
-ghost use Rattle.rules.specs.Answers.{refused, number, answerNumber, toldOpened, toldWritten, toldStated};
+ghost use Rattle.rules.specs.Answers.{refused, number, answerNumber, toldOpened, toldWritten, toldStated, besideNumber};
 ghost use Rattle.rules.specs.Roles.{openSession};
 ghost use Rattle.rules.specs.Receipt.{receiptVerdict};
 ghost use Rattle.rules.specs.Sending.{sendingVerdict};
 ghost use Rattle.rules.specs.Origin.{ipv4, originState, receivedTag};
-ghost use Rattle.c_api.specs.Numbers.{besideNumber, Reported};
+ghost use Rattle.c_api.specs.Numbers.{Reported};
 use rules::Opened;
 use rules::Refusal;
 use rules::Session;

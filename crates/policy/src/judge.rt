@@ -147,7 +147,7 @@ fn from_above(source: u8) -> bool
 }
 
 // The mode that is meant: 0 stands for the house default (01, Modes).
-fn mode_meant(mode: u8) -> u8
+pub fn mode_meant(mode: u8) -> u8
     ensures { λ r. ⌜ r ≡ modeMeant mode ⌝ }
 {
     if mode == 0 { HOUSE_DEFAULT } else { mode }

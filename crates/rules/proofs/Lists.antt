@@ -1,11 +1,11 @@
--- Laws of lists that the kit lacks: of `keep`, and of lists that have no element.
+-- Laws of lists that the kit lacks: of `keep`, of the first element that passes a test, and of lists that have no element.
 use Prim.Native.Nat.{ℕ, suc, _+_, _≤_, _<_}
 use mathlib.Core.Path.{_≡_, refl, sym, _∙_}
 use mathlib.Core.List.{List, [], _∷_, _++_}
 use mathlib.Core.Bool.{Bool, true, false, cond, true≢false}
 use native.Mathlib.Omega.{arith}
 use lib.ListN.{length}
-use Rattle.rules.specs.Bytes.{isEmpty, keep}
+use Rattle.rules.specs.Bytes.{isEmpty, exists, keep, firstIndex}
 
 -- 1 for true
 abbrev pub bit : Bool → ℕ
@@ -51,6 +51,30 @@ module _ {A : Type 0} (p : A → Bool) where
           → cond b (x ∷ keep p (l ++ m)) (keep p (l ++ m)) ≡ cond b (x ∷ keep p l) (keep p l) ++ keep p m
       go true ih = rw ih refl
       go false ih = ih
+
+-- A list, where none of the first `index` elements passes a test, and `rest` are those after them.
+pub record Past {A : Type 0} (p : A → Bool) (all rest : List A) (index : ℕ) : Type 0 where
+  pub counted : length all ≡ index + length rest
+  pub same : exists p all ≡ exists p rest
+  pub at : firstIndex p all ≡ index + firstIndex p rest
+
+module _ {A : Type 0} {p : A → Bool} where
+  pub past-start : (l : List A) → Past p l l 0
+  past-start l = record { counted = omega arith; same = refl; at = omega arith }
+
+  module _ {all : List A} {index : ℕ} where
+    pub past-next : {x : A} {rest : List A} {next : ℕ} → Past p all (x ∷ rest) index → p x ≡ false → next ≡ index + 1 → Past p all rest next
+    unfolding exists firstIndex
+    past-next P e q =
+        record { counted = omega (arith, P .counted, q); same = P .same ∙ rw e refl; at = P .at ∙ rw e (omega arith) }
+
+    pub past-found : {x : A} {rest : List A} → Past p all (x ∷ rest) index → p x ≡ true → (exists p all ≡ true) × (firstIndex p all ≡ index)
+    unfolding exists firstIndex
+    past-found P e = (P .same ∙ rw e refl, P .at ∙ rw e (omega arith))
+
+    pub past-end : Past p all [] index → (exists p all ≡ false) × (length all ≡ index)
+    unfolding exists
+    past-end P = (P .same, omega (arith, P .counted))
 
 -- What passes one test, of what passes a weaker one.
 pub keep-within : {A : Type 0} (p q : A → Bool) → ((x : A) → p x ≡ true → q x ≡ true) → (l : List A) → keep p (keep q l) ≡ keep p l

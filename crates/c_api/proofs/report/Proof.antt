@@ -1,7 +1,6 @@
 -- `c_api::report` meets its contract.
 use mathlib.Core.Path.{refl}
-use Rattle.rules.specs.Answers.{toldWritten, answerNumber}
-use Rattle.c_api.specs.Numbers.{besideNumber}
+use Rattle.rules.specs.Answers.{toldWritten, answerNumber, besideNumber}
 use borrow.Author.Needs.{needs}
 use Rattle.c_api.proofs.report.Statement.{statement}
 use Rattle.c_api.proofs.report.Tie as tie

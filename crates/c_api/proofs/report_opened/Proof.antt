@@ -1,7 +1,6 @@
 -- `c_api::report_opened` meets its contract.
 use mathlib.Core.Path.{refl}
-use Rattle.rules.specs.Answers.{toldOpened, answerNumber}
-use Rattle.c_api.specs.Numbers.{besideNumber}
+use Rattle.rules.specs.Answers.{toldOpened, answerNumber, besideNumber}
 use borrow.Author.Needs.{needs}
 use Rattle.c_api.proofs.report_opened.Statement.{statement}
 use Rattle.c_api.proofs.report_opened.Tie as tie

@@ -1,7 +1,6 @@
 -- `c_api::report_refusal` meets its contract: each arm by the row of the table.
 use mathlib.Core.Path.{refl}
-use Rattle.rules.specs.Answers.{number, beside}
-use Rattle.c_api.specs.Numbers.{besideNumber}
+use Rattle.rules.specs.Answers.{number, beside, besideNumber}
 use borrow.Author.Needs.{needs}
 use Rattle.c_api.proofs.report_refusal.Statement.{statement}
 use Rattle.c_api.proofs.report_refusal.Tie as tie

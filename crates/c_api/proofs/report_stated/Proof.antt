@@ -1,7 +1,6 @@
 -- `c_api::report_stated` meets its contract.
 use mathlib.Core.Path.{refl}
-use Rattle.rules.specs.Answers.{toldStated, answerNumber}
-use Rattle.c_api.specs.Numbers.{besideNumber}
+use Rattle.rules.specs.Answers.{toldStated, answerNumber, besideNumber}
 use borrow.Author.Needs.{needs}
 use Rattle.c_api.proofs.report_stated.Statement.{statement}
 use Rattle.c_api.proofs.report_stated.Tie as tie

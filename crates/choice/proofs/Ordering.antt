@@ -1,0 +1,69 @@
+-- The order of routes by their keys, removals and classes, each as the code tests it.
+use Prim.Native.Nat.{ℕ, zero, suc}
+use mathlib.Core.Path.{_≡_, refl, sym, _∙_}
+use mathlib.Core.Bool.{Bool, true, false, _&&_, _||_, or-false}
+use mathlib.Core.List.{List, [], _∷_}
+use borrow.Author.Tests.{eq-eqb, ne-eqb, le-ltb}
+use lib.Dec.{ltb, eqb}
+use lib.ListN.{getD}
+use Rattle.rules.specs.Settings.{dropInvalid, prioritise, invalid}
+use Rattle.rules.specs.Choice.{before}
+use native.Mathlib.Nat.{le-refl}
+use Rattle.choice.specs.declared.entry.Entry.{Entry}
+use Rattle.choice.specs.Entries.{isRemoved, rank}
+
+-- The first key decides where it differs, else those after it.
+module _ (x y : ℕ) (xs ys : List ℕ) where
+  pub before-first : (x ≡ y → ⊥) → ltb x y ≡ before (x ∷ xs) (y ∷ ys)
+  unfolding before
+  before-first h = rw (ne-eqb x y h) (sym (or-false (ltb x y)))
+
+  pub before-next : x ≡ y → before xs ys ≡ before (x ∷ xs) (y ∷ ys)
+  unfolding before
+  before-next e = rw (e, le-ltb y y (le-refl y), eq-eqb y y refl) refl
+
+pub before-last : (x y : ℕ) → ltb x y ≡ before (x ∷ []) (y ∷ [])
+unfolding before
+before-last x y = go (ltb x y) (eqb x y)
+  where
+    go : (a b : Bool) → a ≡ a || (b && false)
+    go true b = refl
+    go false true = refl
+    go false false = refl
+
+-- Removals, in their order.
+module _ (mode client : ℕ) (e : Entry) where
+  pub removed-otc : e .otc ≡ true → true ≡ isRemoved mode client e
+  unfolding isRemoved
+  removed-otc o = rw o refl
+
+  module _ (o : e .otc ≡ false) where
+    pub removed-own : e .address ≡ client → true ≡ isRemoved mode client e
+    unfolding isRemoved
+    removed-own a = rw (o, eq-eqb (e .address) client a) refl
+
+    module _ (a : e .address ≡ client → ⊥) where
+      pub removed-mode : (mode ≡ dropInvalid → ⊥) → false ≡ isRemoved mode client e
+      unfolding isRemoved
+      removed-mode m = rw (o, ne-eqb (e .address) client a, ne-eqb mode dropInvalid m) refl
+
+      pub removed-state : mode ≡ dropInvalid → eqb (e .state) invalid ≡ isRemoved mode client e
+      unfolding isRemoved
+      removed-state m = rw (o, ne-eqb (e .address) client a, eq-eqb mode dropInvalid m) refl
+
+-- Classes: one for all, or those of the states, of which the last is that of every other state.
+module _ (mode state : ℕ) where
+  pub rank-one : (mode ≡ prioritise → ⊥) → 0 ≡ rank mode state
+  unfolding rank
+  rank-one h = rw (ne-eqb mode prioritise h) refl
+
+  pub rank-class : mode ≡ prioritise → {n : ℕ} → n ≡ getD (0 ∷ 1 ∷ 2 ∷ 1 ∷ []) state 2 → n ≡ rank mode state
+  unfolding rank
+  rank-class e q = q ∙ rw (eq-eqb mode prioritise e) refl
+
+pub class-last : (state : ℕ) → (state ≡ 0 → ⊥) → (state ≡ 1 → ⊥) → (state ≡ 3 → ⊥) → _≡_ {A = ℕ} 2 (getD (0 ∷ 1 ∷ 2 ∷ 1 ∷ []) state 2)
+class-last zero a b c = absurd (a refl)
+class-last (suc zero) a b c = absurd (b refl)
+class-last (suc (suc zero)) a b c = refl
+class-last (suc (suc (suc zero))) a b c = absurd (c refl)
+class-last (suc (suc (suc (suc n)))) a b c = refl
