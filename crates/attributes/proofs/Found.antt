@@ -14,7 +14,7 @@ use Rattle.rules.specs.Bytes.{bigEndian, exists}
 use Rattle.rules.specs.Rows.{fit}
 use Rattle.rules.specs.Attributes.{Attribute, attribute, attributes, attributeSize, lengthBytes, encode, encodeOne, isType, has, valueOf, valueFault, otcOk, otcAs, fault, readable}
 use Rattle.rules.proofs.Rows.{fit-none, fit-some, fit-le}
-use Rattle.rules.proofs.Blocks.{All, Framed, all-map, size-front, attribute-encode}
+use Rattle.rules.proofs.Blocks.{All, Framed, all-map, size-front, attribute-encode, encoded-pos}
 use Rattle.rules.proofs.Readable.{Fine, read-good}
 use Rattle.rules.proofs.Parts.{size, size-cons}
 use Rattle.attributes.specs.Layout.{place, placeOf, layout, reading, Read, SizeAt, firstValue, valueAt}
@@ -35,10 +35,6 @@ take-past s n h p q =
 first-none : (s : List ℕ) → fit attributeSize s ≡ 0 → firstValue s ≡ []
 unfolding firstValue
 first-none s e = rw e refl
-
-pub encoded-pos : (a : Attribute) → 0 < length (encodeOne a)
-unfolding encodeOne
-encoded-pos a = omega arith
 
 fit-nil : fit attributeSize [] ≡ 0
 fit-nil = fit-none attributeSize [] (omega (arith, size-least []))

@@ -1,5 +1,5 @@
 -- The places of attributes, as the reader finds them one after the other.
-use Prim.Native.Nat.{ℕ, _+_, _≤_, _<_}
+use Prim.Native.Nat.{ℕ, _+_, _≤_}
 use mathlib.Core.Path.{_≡_, refl, ap, _∙_}
 use mathlib.Core.List.{List, [], _∷_, _++_, flatMap, append-nil}
 use mathlib.Core.Bool.{Bool, true, false, cond}
@@ -8,14 +8,11 @@ use lib.ListN.{length, length-append}
 use lib.Dec.{eqb, ltb}
 use borrow.Author.Tests.{eq-eqb, ne-eqb, eqb-true, eqb-false}
 use Rattle.rules.specs.Attributes.{Attribute, encode, encodeOne}
+use Rattle.rules.proofs.Blocks.{encoded-pos}
 use Rattle.rules.proofs.Parts.{size, size-cons, encode-append}
 use Rattle.attributes.specs.Layout.{place, placeOf, placeAbove, layout}
 use Rattle.attributes.specs.declared.Layout.{Layout}
 use Rattle.attributes.specs.Steps.{moved, noted}
-
-size-pos : (a : Attribute) → 0 < length (encodeOne a)
-unfolding encodeOne
-size-pos a = omega arith
 
 pub place-le : (p : ℕ → Bool) (l : List Attribute) → place p l ≤ size l
 unfolding place encode flatMap
@@ -52,7 +49,7 @@ place-more p (x ∷ l) a = go (p (x .type)) (place-more p l a)
     go : (y : Bool) → place p (l ++ (a ∷ [])) ≡ cond (eqb (place p l) (size l)) (cond (p (a .type)) (size l) (size l + length (encodeOne a))) (place p l)
         → cond y 0 (length (encodeOne x) + place p (l ++ (a ∷ [])))
         ≡ cond (eqb (cond y 0 (length (encodeOne x) + place p l)) (size (x ∷ l))) (cond (p (a .type)) (size (x ∷ l)) (size (x ∷ l) + length (encodeOne a))) (cond y 0 (length (encodeOne x) + place p l))
-    go true ih = rw (ne-eqb 0 (size (x ∷ l)) (λ z. omega (arith, z, size-cons x l, size-pos x))) refl
+    go true ih = rw (ne-eqb 0 (size (x ∷ l)) (λ z. omega (arith, z, size-cons x l, encoded-pos x))) refl
     go false ih = rw ih (step (place p l) (place-le p l) (p (a .type)))
 
 -- All the places.

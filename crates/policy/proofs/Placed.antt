@@ -10,13 +10,12 @@ use borrow.Author.Tests.{le-leb, lt-leb, lt-ltb, le-ltb}
 use Rattle.rules.specs.Bytes.{part, isEmpty}
 use Rattle.rules.specs.Attributes.{Attribute, encode, encodeOne, isType, has}
 use Rattle.rules.specs.Changes.{isTag, dropFrom, withValue}
-use Rattle.rules.proofs.Blocks.{All, Framed, attribute-encode}
+use Rattle.rules.proofs.Blocks.{All, Framed, attribute-encode, encoded-pos}
 use Rattle.rules.proofs.Parts.{is, count, count-cons, size, size-cons, encode-append}
 use Rattle.attributes.specs.Layout.{placeOf}
 use Rattle.policy.specs.Plan.{tagBytes, leftOf, communityBytes, item, piece}
 use Rattle.policy.specs.declared.Plan.{Plan}
 use Rattle.policy.proofs.Turned.{turned, turnedAll, turned-append}
-use Rattle.attributes.proofs.Found.{encoded-pos}
 use Rattle.policy.proofs.Found.{pastCommunities, part-middle, size-append, turned-none, Found, found, place-found, place-none, count-append, has-append, has-zero, framed-middle, turned-cons}
 
 -- One communities attribute as it goes out.

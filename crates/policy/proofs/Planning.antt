@@ -13,7 +13,7 @@ use Rattle.rules.specs.Rows.{fit}
 use Rattle.rules.specs.Attributes.{Attribute, attributes, attributeSize, encode, encodeOne, isType, has, hasOtc, valueOf, readable}
 use Rattle.rules.specs.Changes.{isTag, dropFrom, newFlags, rewritten}
 use Rattle.rules.proofs.Rows.{fit-le, fit-some}
-use Rattle.rules.proofs.Blocks.{All, Framed, all-map, size-front}
+use Rattle.rules.proofs.Blocks.{All, Framed, all-map, size-front, encoded-pos}
 use Rattle.rules.proofs.Parts.{count, size, encode-append}
 use Rattle.rules.proofs.Readable.{Good, read-good}
 use Rattle.rules.proofs.Communities.{drop-nil}
@@ -25,7 +25,6 @@ use Rattle.attributes.proofs.Found.{value-of, has-of}
 use Rattle.policy.specs.Plan.{toldTag, toldOtc, leftOf, communityBytes, newTagBytes, newOtcBytes, item, emitted, Whole, PlanOk, Planned, Sizing, turnedSize}
 use Rattle.policy.specs.declared.Plan.{Plan}
 use Rattle.policy.proofs.Turned.{turnedAll}
-use Rattle.attributes.proofs.Found.{encoded-pos}
 use Rattle.policy.proofs.Found.{pastCommunities, turned-none, Found, found, place-found, place-none, past-none, framed-middle, one-only}
 use Rattle.policy.proofs.Planned.{PlanOf, untagged-none, untagged-one, emitted-is, emitted-size, plan-ok, turned-size}
 
