@@ -7,7 +7,7 @@ use mathlib.Core.Logic.{_⊎_, inl, inr}
 use native.Mathlib.Omega.{arith}
 use native.Mathlib.Nat.{add-zero}
 use lib.ListN.{length, take, drop, getD, length-append, drop-of-length-le}
-use lib.Seq.{drop-drop, take-add, drop-at, length-take-le, getD-take, getD-drop, take-append-seam, drop-append-add}
+use lib.Seq.{drop-drop, getD-take, getD-drop, take-append-seam, drop-append-add}
 use lib.Dec.{eqb, ltb}
 use borrow.Author.Tests.{eq-eqb, ne-eqb, eqb-true, lt-ltb, le-ltb, ltb-true, ltb-false}
 use Rattle.rules.specs.Bytes.{bigEndian, exists}
@@ -17,20 +17,13 @@ use Rattle.rules.proofs.Rows.{fit-none, fit-some, fit-le}
 use Rattle.rules.proofs.Blocks.{All, Framed, all-map, size-front, attribute-encode, encoded-pos}
 use Rattle.rules.proofs.Readable.{Fine, read-good}
 use Rattle.rules.proofs.Parts.{size, size-cons}
+use Rattle.octets.proofs.Slices.{item-value}
 use Rattle.attributes.specs.Layout.{place, placeOf, layout, reading, Read, SizeAt, firstValue, valueAt}
 use Rattle.attributes.specs.declared.Layout.{Layout}
 use Rattle.attributes.specs.declared.Reading.{Reading}
 use Rattle.attributes.specs.declared.Reading.the-variants.{Clean, Fault}
 use Rattle.attributes.proofs.Positions.{fit-here, fit-room}
 use Rattle.attributes.proofs.Sizes.{size-least, item-header}
-
--- What follows the first h of n bytes.
-take-past : (s : List ℕ) (n h : ℕ) → h ≤ n → n ≤ length s → drop h (take n s) ≡ take (n - h) (drop h s)
-take-past s n h p q =
-    let e : n ≡ h + (n - h) = omega arith in
-    ap (λ (k : ℕ). drop h (take k s)) e
-    ∙ ap (drop h) (take-add h (n - h) s)
-    ∙ drop-at (take h s) (take (n - h) (drop h s)) h (length-take-le h s (omega arith))
 
 first-none : (s : List ℕ) → fit attributeSize s ≡ 0 → firstValue s ≡ []
 unfolding firstValue
@@ -70,7 +63,7 @@ module _ (b : List ℕ) (at : ℕ) where
         let r : h ≤ n = header-fits z q in
         let m : n ≤ length (drop at b) = omega (arith, e, fit-le attributeSize (drop at b)) in
         let d : at + n - (at + h) ≡ n - h = omega arith in
-        rw (← e, ne-eqb n 0 z, f, drop-drop (lengthBytes (getD b at 0)) 2 (take n (drop at b)), ← q, take-past (drop at b) n h r m, drop-drop h at b, d) refl
+        rw (← e, ne-eqb n 0 z, f, drop-drop (lengthBytes (getD b at 0)) 2 (take n (drop at b)), ← q, item-value (drop at b) h (n - h) (omega arith) m, drop-drop h at b, d) refl
 
 -- ---- The places of a layout
 

@@ -6,21 +6,18 @@ use mathlib.Core.List.{List, [], _∷_, _++_, foldl, map, map-append, flatMap}
 use native.Mathlib.Omega.{arith}
 use lib.Dec.{eqb}
 use lib.ListN.{length, take, drop, getD, List·getD-eq-default}
-use lib.Seq.{getD-take, take-add, drop-at, length-take-le}
+use lib.Seq.{getD-take}
 use borrow.Author.Tests.{ne-eqb}
 use Rattle.rules.specs.Bytes.{isEmpty, every, keep}
 use Rattle.rules.specs.Rows.{withItem, chop, chopUpTo, whole, tlv}
 use Rattle.rules.specs.Roles.{provider, rs, rsClient, customer, peer, capabilities, capabilityOk, isRole, parameterOk, parametersOk, rolesIn, counterpart, disagree}
 use Rattle.rules.proofs.Lists.{nil-of-length, is-empty-not, keep-append}
 use Rattle.rules.proofs.Rows.{fit-none, fit-some, chop-stop, chop-step}
+use Rattle.octets.proofs.Slices.{item-value}
 use Rattle.roles.specs.Open.{noted, capabilitiesOk, capabilityRoles, found, seenDisagree}
 use Rattle.roles.specs.declared.Seen.{Seen}
 use Rattle.roles.specs.declared.Seen.the-variants.{Absent, One, Unequal}
 use Rattle.roles.specs.declared.Found.the-variants.{Malformed, Roles}
-
--- What stands between the header and the end of an item of 2 + n bytes.
-item-value : (s : List ℕ) (n : ℕ) → 2 + n ≤ length s → drop 2 (take (2 + n) s) ≡ take n (drop 2 s)
-item-value s n h = ap (drop 2) (take-add 2 n s) ∙ drop-at (take 2 s) (take n (drop 2 s)) 2 (length-take-le 2 s (omega arith))
 
 -- No byte: nothing is malformed, and there is no role.
 nothing : (capabilitiesOk [] ≡ true) × (capabilityRoles [] ≡ []) × (parametersOk [] ≡ true) × (rolesIn [] ≡ [])
@@ -42,7 +39,7 @@ module _ (s : List ℕ) where
     parameters-ok : parametersOk s ≡ (eqb (getD s 0 0) 2 && (capabilitiesOk (take n (drop 2 s)) && parametersOk (drop (2 + n) s)))
     unfolding parametersOk parameterOk capabilities capabilitiesOk whole every withItem
     parameters-ok =
-        rw (one-more, getD-take (2 + n) s 0 0 (omega arith), item-value s n h)
+        rw (one-more, getD-take (2 + n) s 0 0 (omega arith), item-value s 2 n refl h)
         (swap (isEmpty (chop tlv (drop (2 + n) s) .left)) (eqb (getD s 0 0) 2) (isEmpty (chop tlv (take n (drop 2 s)) .left)) (every capabilityOk (chop tlv (take n (drop 2 s)) .items)) (every parameterOk (chop tlv (drop (2 + n) s) .items)))
       where
         swap : (x a p q z : Bool) → x && (a && p && q && z) ≡ a && (p && q && (x && z))
@@ -57,7 +54,7 @@ module _ (s : List ℕ) where
     parameters-roles : rolesIn s ≡ capabilityRoles (take n (drop 2 s)) ++ rolesIn (drop (2 + n) s)
     unfolding rolesIn capabilityRoles capabilities flatMap withItem
     parameters-roles =
-        rw (one-more, item-value s n h, keep-append isRole (chop tlv (take n (drop 2 s)) .items) (flatMap (λ p. chop tlv (drop 2 p) .items) (chop tlv (drop (2 + n) s) .items)))
+        rw (one-more, item-value s 2 n refl h, keep-append isRole (chop tlv (take n (drop 2 s)) .items) (flatMap (λ p. chop tlv (drop 2 p) .items) (chop tlv (drop (2 + n) s) .items)))
         (map-append (λ c. getD c 2 0) (keep isRole (chop tlv (take n (drop 2 s)) .items)) (keep isRole (flatMap (λ p. chop tlv (drop 2 p) .items) (chop tlv (drop (2 + n) s) .items))))
 
     capabilities-ok : capabilitiesOk s ≡ ((not (eqb (getD s 0 0) 9) || eqb n 1) && capabilitiesOk (drop (2 + n) s))
