@@ -1,4 +1,4 @@
--- `policy::writer::put_new_otc` meets its contract: no bytes, or a header and four bytes, stored one after the other. Assumes nothing.
+-- `policy::writer::put_new_otc` meets its contract: no bytes, or a header and four bytes, stored one after the other.
 use mathlib.Core.List.{[], _∷_, _++_}
 use borrow.Author.Needs.{needs}
 use Rattle.rules.specs.Bytes.{bytes4}

@@ -1,4 +1,4 @@
--- `policy::writer::put_new_tag` meets its contract: by its three ways out, no bytes twice, and the eleven bytes. Assumes nothing.
+-- `policy::writer::put_new_tag` meets its contract: by its three ways out, no bytes twice, and the eleven bytes.
 use Rattle.octets.proofs.Writing.{stored-none}
 use native.Mathlib.Omega.{arith}
 use borrow.Author.Needs.{needs}

@@ -1,5 +1,5 @@
 -- `policy::writer::put_piece` meets its contract: one store where no communities attribute begins in the piece, else three, one
--- after another. Assumes nothing.
+-- after another.
 use Prim.Native.Nat.{ℕ, _-_, _≤_, _<_}
 use mathlib.Core.List.{List, _++_}
 use native.Mathlib.Omega.{arith}

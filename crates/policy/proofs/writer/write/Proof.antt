@@ -1,4 +1,4 @@
--- `policy::writer::write` meets its contract: five stores, one after another. Assumes nothing.
+-- `policy::writer::write` meets its contract: five stores, one after another.
 use Prim.Native.Nat.{ℕ}
 use mathlib.Core.List.{List, _++_}
 use mathlib.Core.Logic.{inr}
