@@ -1,3 +1,4 @@
+use native.Mathlib.Omega.{arith}
 use borrow.Author.Tests.{not-true, not-false}
 use denote.Ref.{now}
 use Rattle.policy.proofs.Readings.{bad-setting, bad-length, read-fault, read-clean}
@@ -14,7 +15,7 @@ returns c = bad-setting (now (c .before .before .args .block)) (not-true _ (c .i
 
 -- src/checks.rt:22:9
 returns-2 : tie.Need-returns-2
-returns-2 c = bad-length (now (c .before .before .before .args .block)) (not-false _ (c .before .if1 .left)) (c .if2 .taken)
+returns-2 c = bad-length (now (c .before .before .before .args .block)) (not-false _ (c .before .if1 .left)) (omega (arith, c .if2 .taken))
 
 -- src/checks.rt:24:9
 read-requires : tie.Need-read-requires
@@ -27,7 +28,7 @@ enum-known-reading c = search needs
 -- src/checks.rt:27:13
 returns-3 : tie.Need-returns-3
 returns-3 c =
-    read-fault (now (c .before .before .before .before .before .before .before .args .block)) (not-false _ (c .before .before .before .before .before .if1 .left)) (c .before .before .before .before .if2 .left) (c .before .before .before .read .ensures) (c .before .reading .given .1)
+    read-fault (now (c .before .before .before .before .before .before .before .args .block)) (not-false _ (c .before .before .before .before .before .if1 .left)) (omega (arith, c .before .before .before .before .if2 .left)) (c .before .before .before .read .ensures) (c .before .reading .given .1)
 
 -- src/checks.rt:29:24
 enum-known-reading-2 : tie.Need-enum-known-reading-2
@@ -36,7 +37,7 @@ enum-known-reading-2 c = search needs
 -- src/checks.rt:15:1
 returns-4 : tie.Need-returns-4
 returns-4 c =
-    read-clean (now (c .before .before .before .before .before .before .before .args .block)) (not-false _ (c .before .before .before .before .before .if1 .left)) (c .before .before .before .before .if2 .left) (c .before .before .before .read .ensures) (c .before .reading2 .given .1)
+    read-clean (now (c .before .before .before .before .before .before .before .args .block)) (not-false _ (c .before .before .before .before .before .if1 .left)) (omega (arith, c .before .before .before .before .if2 .left)) (c .before .before .before .read .ensures) (c .before .reading2 .given .1)
 
 pub check-block-spec : {M : Type 1} → statement M
 check-block-spec =
