@@ -13,7 +13,7 @@ use Rattle.rules.specs.Bytes.{part, bytes4}
 use Rattle.rules.specs.Attributes.{encodeOne, communitiesType}
 use Rattle.rules.specs.Changes.{tag, newAttribute, newFlags}
 use Rattle.policy.specs.declared.Plan.{Plan}
-use Rattle.policy.specs.Plan.{communityBytes, newTagBytes, newOtcBytes, item, piece, Clear}
+use Rattle.policy.specs.Plan.{communityBytes, newTagBytes, newOtcBytes, item, piece, Clear, Whole}
 
 -- A new tag: none where a community is left or no state is to be told.
 pub new-tag-left : (left state : ℕ) → (left ≡ 0 → ⊥) → newTagBytes left state ≡ []
@@ -60,6 +60,11 @@ module _ (b : List ℕ) (p : Plan) (from to : ℕ) where
       ++ (communityBytes (p .tag) (take (p .rest - p .communities) (drop (p .communities) b)) ++ take (to - p .rest) (drop (p .rest) b))
   unfolding piece item part
   piece-split f h = rw (le-leb from (p .communities) f, lt-ltb (p .communities) to h)
+
+-- The bytes up to where the attribute ends are a whole attribute.
+pub item-whole : (b : List ℕ) (p : Plan) → Whole (item b p) → {end : ℕ} → p .rest ≡ end → Whole (take (end - p .communities) (drop (p .communities) b))
+unfolding item part
+item-whole b p w e = rw (← e) w
 
 -- A place past the attribute's beginning that lies not inside it lies not before its end.
 pub clear-past : (p : Plan) (at : ℕ) → Clear p at → p .communities < at → p .rest ≤ at

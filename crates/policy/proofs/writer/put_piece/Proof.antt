@@ -8,7 +8,7 @@ use lib.ListN.{length, take, drop}
 use Rattle.rules.specs.Bytes.{part}
 use Rattle.octets.proofs.Writing.{Writing, writing-start, writing-rest, writing-step, writing-last, writing-room, writing-last-room}
 use Rattle.policy.specs.Plan.{communityBytes, item, piece}
-use Rattle.policy.proofs.Pieces.{piece-after, piece-before, piece-split, clear-past}
+use Rattle.policy.proofs.Pieces.{piece-after, piece-before, piece-split, item-whole, clear-past}
 use Rattle.policy.proofs.writer.put_piece.Statement.{statement}
 use Rattle.policy.proofs.writer.put_piece.Tie as tie
 
@@ -112,6 +112,7 @@ part-put-community-start c = search needs
 part-put-community-end : tie.Need-part-put-community-end
 part-put-community-end c = search needs
 
+-- The bytes handed over end where the attribute does; the piece may end later.
 put-community-requires : tie.Need-put-community-requires
 unfolding item part
 put-community-requires c κs =
@@ -119,7 +120,7 @@ put-community-requires c κs =
     let e = p .before .before .before in
     let s = e .before .before .before .before in
     let h : s .args .plan .communities < length (s .args .block .now) = omega (arith, e .if2 .left, s .pre .2) in (
-      s .pre .0 .whole h,
+      item-whole (s .args .block .now) (s .args .plan) (s .pre .0 .whole h) (omega (arith, past e)),
       s .pre .0 .left h,
       s .pre .0 .few,
       writing-room (Item s) (Back s) (writing-step (begin e) (p .put3 .ensures)),

@@ -86,7 +86,7 @@ put-piece-requires-2 c κs =
     let p = c .before .before .before in
     let s = s2 p in
     let k = s .pre .0 in
-    (k, k .tagPlace, k .otcPlace, k .otcClear, writing-room (Middle s) (NewOtc s ++ Last s) (after-tag p))
+    (k, omega (arith, k .tagPlace), omega (arith, k .otcPlace), k .otcClear, writing-room (Middle s) (NewOtc s ++ Last s) (after-tag p))
 
 put-new-otc-requires : tie.Need-put-new-otc-requires
 put-new-otc-requires c κs =
