@@ -13,10 +13,11 @@ use Rattle.rules.specs.Rows.{withItem, chop, chopUpTo, whole, tlv}
 use Rattle.rules.specs.Roles.{provider, rs, rsClient, customer, peer, capabilities, capabilityOk, isRole, parameterOk, parametersOk, rolesIn, counterpart, disagree}
 use Rattle.rules.proofs.Lists.{nil-of-length, is-empty-not, keep-append}
 use Rattle.rules.proofs.Rows.{fit-none, fit-some, chop-stop, chop-step}
-use Rattle.octets.proofs.Slices.{item-value}
+use Rattle.octets.proofs.Slices.{part-is, tail-is, item-value}
 use Rattle.roles.specs.Open.{noted, capabilitiesOk, capabilityRoles, found, seenDisagree}
 use Rattle.roles.specs.declared.Seen.{Seen}
 use Rattle.roles.specs.declared.Seen.the-variants.{Absent, One, Unequal}
+use Rattle.roles.specs.declared.Found.{Found}
 use Rattle.roles.specs.declared.Found.the-variants.{Malformed, Roles}
 
 -- No byte: nothing is malformed, and there is no role.
@@ -94,10 +95,12 @@ module _ (s : List ℕ) (seen : Seen) where
   parameters-over p h = malformed seen (rolesIn s) (rw (over s p h) refl)
 
   module _ {n : ℕ} (q : n ≡ getD s 1 0) (h : 2 + n ≤ length s) where
-    pub parameters-step : getD s 0 0 ≡ 2
-        → found (capabilitiesOk (take n (drop 2 s)) && parametersOk (drop (2 + n) s)) seen (capabilityRoles (take n (drop 2 s)) ++ rolesIn (drop (2 + n) s))
-        ≡ found (parametersOk s) seen (rolesIn s)
-    parameters-step e = sym (rw (parameters-ok s q h, parameters-roles s q h, e) refl)
+    -- Capabilities, read in what `&s[2..2 + n]` lends, and then the parameters that `&s[2 + n..]` lends.
+    pub parameters-step : getD s 0 0 ≡ 2 → {r : Found}
+        → let value = take (2 + n - 2) (drop 2 s) in
+        let after = take (length s - (2 + n)) (drop (2 + n) s) in
+        r ≡ found (capabilitiesOk value && parametersOk after) seen (capabilityRoles value ++ rolesIn after) → r ≡ found (parametersOk s) seen (rolesIn s)
+    parameters-step e p = p ∙ sym (rw (part-is s 2 n, tail-is s (2 + n), parameters-ok s q h, parameters-roles s q h, e) refl)
 
     -- Another type.
     pub parameters-type : (getD s 0 0 ≡ 2 → ⊥) → Malformed ≡ found (parametersOk s) seen (rolesIn s)

@@ -1,10 +1,10 @@
 -- The two readers, by one another's contracts for fewer bytes: what is left to read falls at each call.
 use borrow.Author.Needs.{needs}
-use mathlib.Core.Path.{_≡_, _∙_}
+use mathlib.Core.Path.{_∙_}
 use native.Mathlib.Omega.{arith}
 use denote.Ref.{now}
 use lib.ListN.{length}
-use Prim.Native.Nat.{ℕ, _+_, _-_, _<_}
+use Prim.Native.Nat.{ℕ, _+_, _<_}
 use Rattle.octets.proofs.Slices.{tail-is}
 use Rattle.roles.proofs.Opening.{parameters-end, parameters-over, parameters-type, parameters-step, capabilities-end, capabilities-over, capabilities-other, capabilities-long, capabilities-role}
 use borrow.Fn.Kinds.{In}
@@ -192,10 +192,7 @@ p-read-capabilities-requires t c κs = search needs
 p-returns-5 : (t : ℕ) → p-lts.Need-returns-5 (p-claims t) (p-at t) p-reads.Post
 p-returns-5 t c =
     let s = c .before .before .before .before .before .before .before .before .before .before .before in
-    let n = c .before .before .before .before .before .before .wide .result in
-    let k : 2 + n - 2 ≡ n = omega arith in
-    rw (tail-is (now (s .args .s)) (2 + n), k) at (c .read-capabilities .ensures)
-    ∙ parameters-step (now (c .before .before .before .before .before .before .before .before .before .before .before .args .s)) (c .before .before .before .before .before .before .before .before .before .before .before .args .seen) (c .before .before .before .before .before .before .wide .ensures .0) (omega arith) (c .before .before .before .if4 .left)
+    parameters-step (now (s .args .s)) (s .args .seen) (c .before .before .before .before .before .before .wide .ensures .0) (omega arith) (c .before .before .before .if4 .left) (c .read-capabilities .ensures)
 
 pub +read-capabilities+read-parameters-spec : {M : Type 1} → statement M
 +read-capabilities+read-parameters-spec =
