@@ -1,5 +1,9 @@
 -- `c_api::bgp_open` meets its contract: what `roles` promises, as numbers.
+use mathlib.Core.Path.{_≡_}
+use denote.Ref.{now}
 use borrow.Author.Needs.{needs}
+use Rattle.rules.specs.Answers.{toldOpened}
+use Rattle.rules.specs.Roles.{openSession}
 use Rattle.c_api.proofs.bgp_open.Statement.{statement}
 use Rattle.c_api.proofs.bgp_open.Tie as tie
 
@@ -10,7 +14,10 @@ report-opened-requires : tie.Need-report-opened-requires
 report-opened-requires c κs = search needs
 
 returns : tie.Need-returns
-returns c = rw (← c .before .before .open-session .ensures) (c .report-opened .ensures)
+returns c =
+    let a = c .before .before .before .before .args in
+    let opened : toldOpened (c .before .before .open-session .result) ≡ openSession (a .local-role) (a .strict) (now (a .parameters)) = c .before .before .open-session .ensures in
+    rw (← opened) (c .report-opened .ensures)
 
 pub bgp-open-spec : {M : Type 1} → statement M
 bgp-open-spec = tie.close (tie.spec open-session-requires report-opened-requires returns)

@@ -1,5 +1,8 @@
 -- `c_api::bgp_send` meets its contract: what `policy` promises, as numbers.
+use denote.Ref.{now}
 use Rattle.rules.specs.Answers.{toldWritten}
+use Rattle.rules.specs.Sending.{Sent}
+use Rattle.rules.specs.declared.Session.{Session}
 use borrow.Author.Needs.{needs}
 use Rattle.c_api.proofs.bgp_send.Statement.{statement}
 use Rattle.c_api.proofs.bgp_send.Tie as tie
@@ -15,9 +18,13 @@ same-length c = search needs
 
 returns : tie.Need-returns
 returns c =
+    let a = c .before .before .before .before .before .before .before .before .args in
+    let s : Session = record { «local_as» = a .local-as; «remote_as» = a .remote-as; «local_role» = a .local-role; mode = a .mode } in
+    let call = c .before .before .before .before .send in
+    let sent : Sent s (a .source) (a .state) (now (a .block)) (now (a .out)) (toldWritten (call .result)) (call .last .1 .1 .1 .1 .0) = call .ensures in
     record {
-      told = toldWritten (c .before .before .before .before .send .result);
-      leaves = c .before .before .before .before .send .ensures;
+      told = toldWritten (call .result);
+      leaves = sent;
       answered = c .report .ensures .0;
       beside = c .report .ensures .1;
     }
