@@ -1,7 +1,7 @@
 /*
  * Routing policy for BGP, for C: opening of sessions under RFC 9234 roles, receipt and sending of their attribute blocks, the
- * origin state of IPv4 routes (RFC 6811) and the state that a received tag tells (RFC 8097). The functions are in libc_api.a,
- * which `rt staticlib c_api` writes to target/staticlib.
+ * origin state of IPv4 routes (RFC 6811), the state that a received tag tells (RFC 8097), and the choice of a route for a
+ * route-server client. The functions are in libc_api.a, which `rt staticlib c_api` writes to target/staticlib.
  */
 #ifndef BGP_POLICY_H
 #define BGP_POLICY_H
@@ -28,12 +28,14 @@ extern "C" {
  * parameters,           the optional parameters of the other end's OPEN: where they begin, and how many bytes they have,
  * parameters_len        at most 255
  *
+ * Of receipt, sending and choosing
+ * mode                  0 the house default, which is 1; 1 simple tagging; 2 drop invalid; 3 prioritise
+ *
  * Of receipt and sending
  * local_as, remote_as   the two AS numbers of the session: not 0, and not equal
- * mode                  0 the house default, which is 1; 1 simple tagging; 2 drop invalid; 3 prioritise
  * out, out_len          the output buffer: where it begins, and how many bytes it has; 4,073 is always enough
  *
- * Of all but opening
+ * Of receipt, sending, origin state and received tag
  * block, block_len      the attribute block: where it begins, and how many bytes it has, at most 4,073
  *
  * Of origin state
@@ -42,9 +44,18 @@ extern "C" {
  * own_as                the AS that is the origin of a route with an empty path: not 0
  * table, table_len      VRPs of 10 bytes each: prefix 4, length, maximum length, ASN 4, high byte first; at most 4,096 of them
  *
- * Settings of any value, parameters, a table and a block of any bytes and a buffer of any length have an answer. But every
- * pointer must be usable (never NULL, also where the length is 0), out must not overlap block, and *beside must lie in none
- * of parameters, table, block and out.
+ * Of choosing
+ * client                the client's own address as a number
+ * buffer, buffer_len    the bytes that the candidates' blocks are parts of
+ * candidates,           17 bytes for each candidate, numbers high byte first: where its block begins in the buffer 4, how many
+ * candidates_len        bytes the block has 4, state 1, the sender's identifier 4, the sender's address 4; at most 64 of them
+ * left                  where it goes how many candidates were left after removal, 0 unless the answer is 0
+ *
+ * Of comparing two: for each its block, state (0 to 3), the sender's identifier and address
+ *
+ * Settings of any value, parameters, tables and blocks of any bytes and a buffer of any length have an answer. But every
+ * pointer must be usable (never NULL, also where the length is 0), out must not overlap block, and *beside and *left must lie
+ * in none of the bytes handed in or out, nor be the same.
  *
  * Answers, and what *beside becomes
  *
@@ -54,23 +65,30 @@ extern "C" {
  *       of out                                              its length in bytes
  *       origin state, received tag                          the state: 0 valid, 1 not found, 2 invalid; of a tag also 3,
  *                                                           unavailable
+ *       choosing, comparing two                             the index of the route, from 0
  *  1  ineligible, a leak (receipt only)                     the rule of receipt, 1 or 2
  *  2  withheld (sending only)                               the rule of sending, 1, 2 or 3
- *  3  attributes malformed, treat as withdraw (all but
- *     opening)                                              the fault, 1 to 6
+ *  3  attributes malformed, treat as withdraw (receipt,
+ *     sending, origin state, received tag)                  the fault, 1 to 6
  *  4  session rejected, NOTIFICATION 2/11 (opening only)    0
- *  5  a setting is out of range (all but received tag)      0
+ *  5  a setting is out of range (all but received tag and
+ *     comparing two)                                        0
  *  6  too long: parameters of more than 255 bytes, a block
- *     of more than 4,073, a table of more than 4,096 VRPs;
- *     or a table whose length is no multiple of 10          0
+ *     of more than 4,073 (in choosing 10), a table of more
+ *     than 4,096 VRPs or 64 candidates; or a table whose
+ *     length is no multiple of 10, or of 17                 0
  *  7  no room: the result is longer than out or than 4,073
  *     (receipt and sending)                                 0
  *  8  OPEN parameters malformed (opening only)              0
  *  9  bad VRP record: its length above its maximum, or its
  *     maximum above 32 (origin state only)                  the index of the first one, from 0
+ * 10  bad candidate: outside the buffer, more than 4,073
+ *     bytes, state above 3, or malformed (choosing and
+ *     comparing two)                                        the index of the first one, from 0
+ * 11  no route to choose (choosing only)                    0
  *
- * Where several apply, opening gives the first of 5, 6, 8, 4, receipt and sending the first of 5, 6, 3, 1 or 2, 7, and origin
- * state the first of 5, 6, 9, 3.
+ * Where several apply, opening gives the first of 5, 6, 8, 4, receipt and sending the first of 5, 6, 3, 1 or 2, 7, origin
+ * state the first of 5, 6, 9, 3, and choosing the first of 5, 6, 10, 11.
  * Every call sets *beside. Only answer 0 stores anything in out, and then the bytes past the length in *beside stay as
  * they were.
  */
@@ -106,6 +124,22 @@ uint8_t bgp_origin_state(uint8_t prefix_length, uint32_t prefix, uint32_t own_as
 
 /* Received tag: the greatest state, up to 2, that the tags among the block's extended communities tell. */
 uint8_t bgp_received_tag(const uint8_t *block, size_t block_len, size_t *beside);
+
+/*
+ * Choosing: without blocks that have an OTC, the client's own routes, in mode 2 invalid routes and in mode 3 all but the best
+ * class of states left (0; then 1 and 3; then 2), the route with the shortest path, then the lowest ORIGIN, identifier, address
+ * and index.
+ */
+uint8_t bgp_choose(uint8_t mode, uint32_t client,
+                   const uint8_t *buffer, size_t buffer_len,
+                   const uint8_t *candidates, size_t candidates_len,
+                   size_t *beside, size_t *left);
+
+/* Comparing two candidates by that order alone; nothing is removed. */
+uint8_t bgp_better(const uint8_t *first, size_t first_len, uint8_t state, uint32_t identifier, uint32_t address,
+                   const uint8_t *second, size_t second_len,
+                   uint8_t other_state, uint32_t other_identifier, uint32_t other_address,
+                   size_t *beside);
 
 #ifdef __cplusplus
 }

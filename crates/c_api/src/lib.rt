@@ -1,91 +1,20 @@
-// The library for callers in C and Rust: numbers, slices and one number handed back. include/bgp_policy.h declares it.
+// The library for callers in C and Rust: numbers, slices and numbers handed back. include/bgp_policy.h declares it.
+pub mod report;
+
+use report::report;
+use report::report_chosen;
+use report::report_opened;
+use report::report_stated;
+use rules::Session;
 ghost use mathlib.Core.Path.{_≡_};
-ghost use Rattle.rules.specs.Answers.{refused, number, answerNumber, toldOpened, toldWritten, toldStated, besideNumber};
+ghost use Rattle.rules.specs.Answers.{answerNumber, besideNumber};
 ghost use Rattle.rules.specs.Roles.{openSession};
 ghost use Rattle.rules.specs.Receipt.{receiptVerdict};
 ghost use Rattle.rules.specs.Sending.{sendingVerdict};
 ghost use Rattle.rules.specs.Origin.{ipv4, originState, receivedTag};
-ghost use Rattle.c_api.specs.Numbers.{Reported};
-use rules::Opened;
-use rules::Refusal;
-use rules::Session;
-use rules::Stated;
-use rules::Written;
-
-// A refusal as numbers: its number as the result, and through `beside` the number beside it, 0 where it has none.
-fn report_refusal(refusal: Refusal, beside: &mut usize) -> u8
-    ensures { λ r. ⌜ (r ≡ number refusal) × (now (beside .exit) ≡ besideNumber (refused refusal)) ⌝ }
-{
-    *beside = 0;
-    match refusal {
-        Refusal::Ineligible(rule) => {
-            *beside = rule as usize;
-            1
-        }
-        Refusal::Withheld(rule) => {
-            *beside = rule as usize;
-            2
-        }
-        Refusal::Malformed(fault) => {
-            *beside = fault as usize;
-            3
-        }
-        Refusal::Rejected => 4,
-        Refusal::BadSetting => 5,
-        Refusal::BadLength => 6,
-        Refusal::NoRoom => 7,
-        Refusal::BadOpen => 8,
-        Refusal::BadVrp(index) => {
-            *beside = index;
-            9
-        }
-        Refusal::BadCandidate(index) => {
-            *beside = index;
-            10
-        }
-        Refusal::NoRoute => 11,
-        Refusal::Unreadable => 12,
-    }
-}
-
-// An answer of opening as numbers: its number as the result, and through `beside` the number beside it, the remote role on answer 0.
-fn report_opened(answer: Opened, beside: &mut usize) -> u8
-    ensures { λ r. ⌜ (r ≡ answerNumber (toldOpened answer)) × (now (beside .exit) ≡ besideNumber (toldOpened answer)) ⌝ }
-{
-    match answer {
-        Opened::Role(role) => {
-            *beside = role as usize;
-            0
-        }
-        Opened::Refused(refusal) => report_refusal(refusal, beside),
-    }
-}
-
-// An answer of receipt or sending as numbers: likewise, with the length on answer 0.
-fn report(answer: Written, beside: &mut usize) -> u8
-    ensures { λ r. ⌜ (r ≡ answerNumber (toldWritten answer)) × (now (beside .exit) ≡ besideNumber (toldWritten answer)) ⌝ }
-{
-    match answer {
-        Written::Bytes(length) => {
-            *beside = length;
-            0
-        }
-        Written::Refused(refusal) => report_refusal(refusal, beside),
-    }
-}
-
-// An answer that tells a state, as numbers: likewise, with the state on answer 0.
-fn report_stated(answer: Stated, beside: &mut usize) -> u8
-    ensures { λ r. ⌜ (r ≡ answerNumber (toldStated answer)) × (now (beside .exit) ≡ besideNumber (toldStated answer)) ⌝ }
-{
-    match answer {
-        Stated::State(state) => {
-            *beside = state as usize;
-            0
-        }
-        Stated::Refused(refusal) => report_refusal(refusal, beside),
-    }
-}
+ghost use Rattle.rules.specs.Choice.{better};
+ghost use Rattle.choice.specs.Offers.{chooseIn};
+ghost use Rattle.c_api.specs.Numbers.{Reported, indexTold, leftTold};
 
 // Opening of a session: the role agreement in the OPEN's optional parameters.
 #[no_mangle]
@@ -167,4 +96,51 @@ pub extern "C" fn bgp_received_tag(block: &[u8], beside: &mut usize) -> u8
 {
     let answer = origin::received_tag(block);
     report_stated(answer, beside)
+}
+
+// The route for a client, among the candidates of a table.
+#[no_mangle]
+pub extern "C" fn bgp_choose(
+    mode: u8,
+    client: u32,
+    buffer: &[u8],
+    candidates: &[u8],
+    beside: &mut usize,
+    left: &mut usize,
+) -> u8
+    ensures { λ r. ⌜ (r ≡ answerNumber (chooseIn mode client (now (buffer .entry)) (now (candidates .entry)))) × (now (beside .exit) ≡ besideNumber (indexTold (chooseIn mode client (now (buffer .entry)) (now (candidates .entry))))) × (now (left .exit) ≡ leftTold (chooseIn mode client (now (buffer .entry)) (now (candidates .entry)))) ⌝ }
+{
+    let answer = choice::choose(mode, client, buffer, candidates);
+    report_chosen(answer, beside, left)
+}
+
+// The better of two candidates, as an index.
+#[no_mangle]
+pub extern "C" fn bgp_better<'a>(
+    first: &'a [u8],
+    state: u8,
+    identifier: u32,
+    address: u32,
+    second: &'a [u8],
+    other_state: u8,
+    other_identifier: u32,
+    other_address: u32,
+    beside: &mut usize,
+) -> u8
+    ensures { λ r. ⌜ (r ≡ answerNumber (better (record { block = now (first .entry); state = state; identifier = identifier; address = address }) (record { block = now (second .entry); state = «other_state»; identifier = «other_identifier»; address = «other_address» }))) × (now (beside .exit) ≡ besideNumber (better (record { block = now (first .entry); state = state; identifier = identifier; address = address }) (record { block = now (second .entry); state = «other_state»; identifier = «other_identifier»; address = «other_address» }))) ⌝ }
+{
+    let mut answer = 0u8;
+    let winner = choice::better(
+        first,
+        state,
+        identifier,
+        address,
+        second,
+        other_state,
+        other_identifier,
+        other_address,
+        &mut answer,
+        beside,
+    );
+    answer
 }

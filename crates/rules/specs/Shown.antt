@@ -153,9 +153,12 @@ shownCases =
 unfoldable pub between : ℕ → ℕ → Session
 between role mode = record { «local_as» = 1; «remote_as» = 2; «local_role» = role; mode = mode }
 
--- A candidate with the first bytes of the buffer, as many as size says.
+-- A candidate with some bytes of the buffer; with its first bytes, as many as size says.
+unfoldable pub offerAt : ℕ → ℕ → ℕ → ℕ → Offer
+offerAt start size state address = record { start = start; size = size; state = state; identifier = 0; address = address }
+
 unfoldable pub offer : ℕ → ℕ → ℕ → Offer
-offer size state address = record { start = 0; size = size; state = state; identifier = 0; address = address }
+offer size state address = offerAt 0 size state address
 
 unfoldable pub rival : List ℕ → ℕ → Candidate
 rival b address = record { block = b; state = 0; identifier = 0; address = address }
@@ -188,11 +191,13 @@ ourCases =
     choosing 0 6 "4001010040020000" (offer 7 2 6 ∷ offer 8 0 5 ∷ []) (refusal (BadCandidate 1)) ∷
     choosing 3 5 "40010100400200" (offer 7 0 5 ∷ offer 7 2 6 ∷ []) (0 ∷ 1 ∷ 1 ∷ []) ∷
     choosing 3 5 "40010100400200" (offer 7 0 7 ∷ offer 7 2 6 ∷ offer 7 0 6 ∷ []) (0 ∷ 2 ∷ 2 ∷ []) ∷
+    -- Mode 3 classes what is left once the blocks with an OTC are gone.
+    choosing 3 5 "40010100400200C023040000000240010100400200" (offerAt 0 14 0 6 ∷ offerAt 14 7 2 6 ∷ []) (0 ∷ 1 ∷ 1 ∷ []) ∷
     -- Two routes compared: the winner's own block; a bad one leaves nothing to show.
     comparing (rival (hex "40010101400200") 1) (rival shortest 2) (0 ∷ 1 ∷ shortest) ∷
     comparing (rival shortest 2) (rival [] 2) (refusal (BadCandidate 1)) ∷ []
 
 -- Opens every definition of this file, as `everything` does those of the others.
 unfoldable pub allShown : Unit {0}
-unfolding text hex orNothing refusal numbers callNumber endNumbers foretold hops shortest arrival holds shownCases between offer rival ourCases
+unfolding text hex orNothing refusal numbers callNumber endNumbers foretold hops shortest arrival holds shownCases between offerAt offer rival ourCases
 allShown = tt

@@ -65,6 +65,63 @@ extern "C" {
     ) -> u8;
 
     fn bgp_received_tag(block: *const u8, block_len: usize, beside: *mut usize) -> u8;
+
+    fn bgp_choose(
+        mode: u8,
+        client: u32,
+        buffer: *const u8,
+        buffer_len: usize,
+        candidates: *const u8,
+        candidates_len: usize,
+        beside: *mut usize,
+        left: *mut usize,
+    ) -> u8;
+
+    fn bgp_better(
+        first: *const u8,
+        first_len: usize,
+        state: u8,
+        identifier: u32,
+        address: u32,
+        second: *const u8,
+        second_len: usize,
+        other_state: u8,
+        other_identifier: u32,
+        other_address: u32,
+        beside: *mut usize,
+    ) -> u8;
+}
+
+/// A candidate as it is offered to choosing: its block is `size` bytes of one buffer, from `start` on.
+#[derive(Clone, Copy, Debug)]
+pub struct Offer {
+    pub start: u32,
+    pub size: u32,
+    pub state: u8,
+    pub identifier: u32,
+    pub address: u32,
+}
+
+/// A candidate of a comparison, with a block of its own.
+#[derive(Clone, Copy, Debug)]
+pub struct Candidate<'a> {
+    pub block: &'a [u8],
+    pub state: u8,
+    pub identifier: u32,
+    pub address: u32,
+}
+
+/// The table of candidates that choosing takes: 17 bytes to each, numbers high byte first.
+pub fn table(offers: &[Offer]) -> Vec<u8> {
+    let mut bytes = Vec::new();
+    for offer in offers {
+        bytes.extend(offer.start.to_be_bytes());
+        bytes.extend(offer.size.to_be_bytes());
+        bytes.push(offer.state);
+        bytes.extend(offer.identifier.to_be_bytes());
+        bytes.extend(offer.address.to_be_bytes());
+    }
+    bytes
 }
 
 // What `beside` holds before a call, so that a call that leaves it alone is seen.
@@ -158,6 +215,47 @@ pub fn received_tag(block: &[u8]) -> (u8, usize) {
     let mut beside = UNSET;
     // Safe: as in `open`.
     let answer = unsafe { bgp_received_tag(block.as_ptr(), block.len(), &mut beside) };
+    (answer, beside)
+}
+
+/// The route for a client: the answer number, the number beside it (the index on answer 0), and how many were left.
+pub fn choose(mode: u8, client: u32, buffer: &[u8], candidates: &[u8]) -> (u8, usize, usize) {
+    let (mut beside, mut left) = (UNSET, UNSET);
+    // Safe: as in `open`; `left` lies outside the slices too.
+    let answer = unsafe {
+        bgp_choose(
+            mode,
+            client,
+            buffer.as_ptr(),
+            buffer.len(),
+            candidates.as_ptr(),
+            candidates.len(),
+            &mut beside,
+            &mut left,
+        )
+    };
+    (answer, beside, left)
+}
+
+/// The better of two candidates: the answer number and the number beside it (the winner's index on answer 0).
+pub fn better(first: Candidate, second: Candidate) -> (u8, usize) {
+    let mut beside = UNSET;
+    // Safe: as in `open`.
+    let answer = unsafe {
+        bgp_better(
+            first.block.as_ptr(),
+            first.block.len(),
+            first.state,
+            first.identifier,
+            first.address,
+            second.block.as_ptr(),
+            second.block.len(),
+            second.state,
+            second.identifier,
+            second.address,
+            &mut beside,
+        )
+    };
     (answer, beside)
 }
 

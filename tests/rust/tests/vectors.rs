@@ -1,9 +1,9 @@
-//! Every line of ../vectors for opening, receipt, sending, chains, origin state and tags, through the library: the answer, the
-//! number beside it, and the output buffer to its end.
+//! Every line of ../vectors but the desk's, through the library: the answer, the number beside it, and the output buffer to its
+//! end.
 use bgp_policy::lines::{bytes, every, number, optional, Compared};
 use bgp_policy::{
-    counterpart, expected_buffer, open, origin_state, patterns, receive, received_tag, send, shown,
-    Session, BLOCK_MAX, OWN_ROUTE,
+    better, choose, counterpart, expected_buffer, open, origin_state, patterns, receive,
+    received_tag, send, shown, table, Candidate, Offer, Session, BLOCK_MAX, OWN_ROUTE,
 };
 
 // One call in each of two buffers of `cap` bytes, against the three fields after `=>`: answer, number beside it, block stored.
@@ -112,6 +112,65 @@ fn send_line(fields: &[&str]) -> Compared {
     call(cap, &fields[9..], |out| {
         send(session, source, state, &block, out)
     })
+}
+
+// choose: mode, client, buffer, `start:length:state:identifier:address,..`; result: index, how many were left
+fn choose_line(fields: &[&str]) -> Compared {
+    let &[mode, client, buffer, offers, "=>", answer, beside, result] = fields else {
+        panic!("not the fields of choose: {fields:?}");
+    };
+    let offers: Vec<Offer> = match offers {
+        "." => Vec::new(),
+        _ => offers.split(',').map(offer).collect(),
+    };
+    let answer: u8 = number(answer);
+    let (beside, left) = match (answer, result.split_once(',')) {
+        (0, Some((index, left))) => (number(index), number(left)),
+        _ => (optional(beside).unwrap_or(0), 0),
+    };
+    let got = choose(number(mode), number(client), &bytes(buffer), &table(&offers));
+    if got != (answer, beside, left) {
+        return Err(format!(
+            "answered {got:?}, expected {:?}",
+            (answer, beside, left)
+        ));
+    }
+    Ok(())
+}
+
+fn offer(text: &str) -> Offer {
+    let parts: Vec<&str> = text.split(':').collect();
+    let &[start, size, state, identifier, address] = &parts[..] else {
+        panic!("not the parts of a candidate: {text}");
+    };
+    Offer {
+        start: number(start),
+        size: number(size),
+        state: number(state),
+        identifier: number(identifier),
+        address: number(address),
+    }
+}
+
+// better: block, state, identifier, address, of each of two candidates; result: index of the winner
+fn better_line(fields: &[&str]) -> Compared {
+    let &[a, s, i, d, b, t, j, e, "=>", ..] = fields else {
+        panic!("not the fields of better: {fields:?}");
+    };
+    let (first, second) = (bytes(a), bytes(b));
+    let first = Candidate {
+        block: &first,
+        state: number(s),
+        identifier: number(i),
+        address: number(d),
+    };
+    let second = Candidate {
+        block: &second,
+        state: number(t),
+        identifier: number(j),
+        address: number(e),
+    };
+    told(&fields[9..], better(first, second))
 }
 
 // How a chain ends.
@@ -236,6 +295,16 @@ fn functions_state() {
 #[test]
 fn functions_tag() {
     every("functions.tsv", "tag", tag_line);
+}
+
+#[test]
+fn functions_choose() {
+    every("functions.tsv", "choose", choose_line);
+}
+
+#[test]
+fn functions_better() {
+    every("functions.tsv", "better", better_line);
 }
 
 #[test]

@@ -1,9 +1,9 @@
--- `c_api::report_opened` meets its contract.
+-- `report_opened` meets its contract.
 use mathlib.Core.Path.{refl}
 use Rattle.rules.specs.Answers.{toldOpened, answerNumber, besideNumber}
 use borrow.Author.Needs.{needs}
-use Rattle.c_api.proofs.report_opened.Statement.{statement}
-use Rattle.c_api.proofs.report_opened.Tie as tie
+use Rattle.c_api.proofs.report.report_opened.Statement.{statement}
+use Rattle.c_api.proofs.report.report_opened.Tie as tie
 
 enum-known-answer : tie.Need-enum-known-answer
 enum-known-answer c = search needs

@@ -1,9 +1,9 @@
--- `c_api::report` meets its contract.
+-- `report` meets its contract.
 use mathlib.Core.Path.{refl}
 use Rattle.rules.specs.Answers.{toldWritten, answerNumber, besideNumber}
 use borrow.Author.Needs.{needs}
-use Rattle.c_api.proofs.report.Statement.{statement}
-use Rattle.c_api.proofs.report.Tie as tie
+use Rattle.c_api.proofs.report.report.Statement.{statement}
+use Rattle.c_api.proofs.report.report.Tie as tie
 
 enum-known-answer : tie.Need-enum-known-answer
 enum-known-answer c = search needs

@@ -1,9 +1,9 @@
--- `c_api::report_stated` meets its contract.
+-- `report_stated` meets its contract.
 use mathlib.Core.Path.{refl}
 use Rattle.rules.specs.Answers.{toldStated, answerNumber, besideNumber}
 use borrow.Author.Needs.{needs}
-use Rattle.c_api.proofs.report_stated.Statement.{statement}
-use Rattle.c_api.proofs.report_stated.Tie as tie
+use Rattle.c_api.proofs.report.report_stated.Statement.{statement}
+use Rattle.c_api.proofs.report.report_stated.Tie as tie
 
 enum-known-answer : tie.Need-enum-known-answer
 enum-known-answer c = search needs

@@ -1,9 +1,9 @@
--- `c_api::report_refusal` meets its contract: each arm by the row of the table.
+-- `report_refusal` meets its contract: each arm by the row of the table.
 use mathlib.Core.Path.{refl}
 use Rattle.rules.specs.Answers.{number, beside, besideNumber}
 use borrow.Author.Needs.{needs}
-use Rattle.c_api.proofs.report_refusal.Statement.{statement}
-use Rattle.c_api.proofs.report_refusal.Tie as tie
+use Rattle.c_api.proofs.report.report_refusal.Statement.{statement}
+use Rattle.c_api.proofs.report.report_refusal.Tie as tie
 
 enum-known-refusal : tie.Need-enum-known-refusal
 enum-known-refusal c = search needs

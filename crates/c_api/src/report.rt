@@ -1,0 +1,103 @@
+// Answers as numbers: the answer number as the result, and through `beside` the number beside it.
+use rules::Chosen;
+use rules::Opened;
+use rules::Refusal;
+use rules::Stated;
+use rules::Written;
+ghost use mathlib.Core.Path.{_≡_};
+ghost use Rattle.rules.specs.Answers.{refused, number, answerNumber, besideNumber, toldOpened, toldWritten, toldStated};
+ghost use Rattle.rules.specs.Choice.{toldChosen};
+ghost use Rattle.c_api.specs.Numbers.{indexTold, leftTold};
+
+// A refusal as numbers: its number as the result, and through `beside` the number beside it, 0 where it has none.
+pub fn report_refusal(refusal: Refusal, beside: &mut usize) -> u8
+    ensures { λ r. ⌜ (r ≡ number refusal) × (now (beside .exit) ≡ besideNumber (refused refusal)) ⌝ }
+{
+    *beside = 0;
+    match refusal {
+        Refusal::Ineligible(rule) => {
+            *beside = rule as usize;
+            1
+        }
+        Refusal::Withheld(rule) => {
+            *beside = rule as usize;
+            2
+        }
+        Refusal::Malformed(fault) => {
+            *beside = fault as usize;
+            3
+        }
+        Refusal::Rejected => 4,
+        Refusal::BadSetting => 5,
+        Refusal::BadLength => 6,
+        Refusal::NoRoom => 7,
+        Refusal::BadOpen => 8,
+        Refusal::BadVrp(index) => {
+            *beside = index;
+            9
+        }
+        Refusal::BadCandidate(index) => {
+            *beside = index;
+            10
+        }
+        Refusal::NoRoute => 11,
+        Refusal::Unreadable => 12,
+    }
+}
+
+// An answer of opening as numbers: its number as the result, and through `beside` the number beside it, the remote role on answer 0.
+pub fn report_opened(answer: Opened, beside: &mut usize) -> u8
+    ensures { λ r. ⌜ (r ≡ answerNumber (toldOpened answer)) × (now (beside .exit) ≡ besideNumber (toldOpened answer)) ⌝ }
+{
+    match answer {
+        Opened::Role(role) => {
+            *beside = role as usize;
+            0
+        }
+        Opened::Refused(refusal) => report_refusal(refusal, beside),
+    }
+}
+
+// An answer of receipt or sending as numbers: likewise, with the length on answer 0.
+pub fn report(answer: Written, beside: &mut usize) -> u8
+    ensures { λ r. ⌜ (r ≡ answerNumber (toldWritten answer)) × (now (beside .exit) ≡ besideNumber (toldWritten answer)) ⌝ }
+{
+    match answer {
+        Written::Bytes(length) => {
+            *beside = length;
+            0
+        }
+        Written::Refused(refusal) => report_refusal(refusal, beside),
+    }
+}
+
+// An answer that tells a state, as numbers: likewise, with the state on answer 0.
+pub fn report_stated(answer: Stated, beside: &mut usize) -> u8
+    ensures { λ r. ⌜ (r ≡ answerNumber (toldStated answer)) × (now (beside .exit) ≡ besideNumber (toldStated answer)) ⌝ }
+{
+    match answer {
+        Stated::State(state) => {
+            *beside = state as usize;
+            0
+        }
+        Stated::Refused(refusal) => report_refusal(refusal, beside),
+    }
+}
+
+// An answer of choosing as numbers: likewise, with the index on answer 0, and through `left` how many were left, 0 on a refusal.
+pub fn report_chosen(answer: Chosen, beside: &mut usize, left: &mut usize) -> u8
+    ensures { λ r. ⌜ (r ≡ answerNumber (toldChosen answer)) × (now (beside .exit) ≡ besideNumber (indexTold (toldChosen answer))) × (now (left .exit) ≡ leftTold (toldChosen answer)) ⌝ }
+{
+    *left = 0;
+    match answer {
+        Chosen::Route {
+            index,
+            left: remaining,
+        } => {
+            *beside = index;
+            *left = remaining;
+            0
+        }
+        Chosen::Refused(refusal) => report_refusal(refusal, beside),
+    }
+}
