@@ -1,7 +1,7 @@
 -- Rows of items of one size: ASNs, communities, VRPs.
-use Prim.Native.Nat.{ℕ, zero, suc, _+_, _-_, _*_, _%_, _≤_, _<_}
+use Prim.Native.Nat.{ℕ, zero, suc, _+_, _*_, _%_, _≤_, _<_}
 use mathlib.Core.Path.{_≡_, refl, sym, ap, _∙_, subst}
-use mathlib.Core.List.{List, [], _∷_, _++_, flatten, append-assoc}
+use mathlib.Core.List.{List, [], _∷_, _++_, flatten, append-assoc, append-nil}
 use mathlib.Core.Bool.{Bool, true, false, cond}
 use native.Mathlib.Omega.{arith}
 use native.Mathlib.Nat.{mul-suc, add-comm, mod-eq-of-lt, mul-add-mod-self-left}
@@ -90,6 +90,28 @@ not-whole-mod n p s h = is-empty-not (chop (by n) s .left) (omega (arith, left-m
 -- How many items a whole row has.
 pub whole-length : (n : ℕ) → 0 < n → (s : List ℕ) → length s % n ≡ 0 → length s ≡ n * length (chop (by n) s .items)
 whole-length n p s z = omega (arith, chop-length n p s, left-mod n p s)
+
+flatten-whole : (n : ℕ) → 0 < n → (s : List ℕ) → length s % n ≡ 0 → flatten (chop (by n) s .items) ≡ s
+flatten-whole n p s z =
+    let e : chop (by n) s .left ≡ [] = nil-of-length (chop (by n) s .left) (left-mod n p s ∙ z) in
+    sym (append-nil (flatten (chop (by n) s .items))) ∙ ap (λ (r : List ℕ). flatten (chop (by n) s .items) ++ r) (sym e) ∙ chop-cut n p s .joined
+
+flatten-one : (l : List (List ℕ)) (c : List ℕ) → flatten (l ++ (c ∷ [])) ≡ flatten l ++ c
+unfolding flatten
+flatten-one [] c = append-nil c
+flatten-one (x ∷ l) c = rw (flatten-one l c) (sym (append-assoc x (flatten l) c))
+
+each-one : (n : ℕ) (l : List (List ℕ)) (c : List ℕ) → Each n l → length c ≡ n → Each n (l ++ (c ∷ []))
+each-one n [] c e h = (h, tt)
+each-one n (x ∷ l) c e h = (e .0, each-one n l c (e .1) h)
+
+-- One item more, at the end of a whole row.
+pub items-more : (n : ℕ) → 0 < n → (v c : List ℕ) → length v % n ≡ 0 → length c ≡ n
+    → chop (by n) (v ++ c) .items ≡ chop (by n) v .items ++ (c ∷ [])
+items-more n p v c z h =
+    ap (λ (w : List ℕ). chop (by n) (w ++ c) .items) (sym (flatten-whole n p v z))
+    ∙ ap (λ (w : List ℕ). chop (by n) w .items) (sym (flatten-one (chop (by n) v .items) c))
+    ∙ ap (λ (r : Row). r .items) (chop-flatten n p _ (each-one n (chop (by n) v .items) c (chop-cut n p v .each) h))
 
 pub each-keep : (n : ℕ) (p : List ℕ → Bool) (l : List (List ℕ)) → Each n l → Each n (keep p l)
 unfolding keep

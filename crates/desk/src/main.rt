@@ -1,0 +1,130 @@
+// The desk program: reads standard input to its end, hands it to the byte machine of `desk_lines`, and writes what that says.
+// Nothing is known here of what the bytes mean. That those read and written are those handed over is tested, not proved.
+use desk_lines::State;
+use desk_lines::begin;
+use desk_lines::feed;
+use desk_lines::finish;
+use libc::STDERR_FILENO;
+use libc::STDIN_FILENO;
+use libc::STDOUT_FILENO;
+ghost use mathlib.Core.Path.{_≡_};
+ghost use Prim.Native.Nat.{_+_, _<_, _≤_, _^_};
+ghost use lib.ListN.{length};
+ghost use Rattle.desk_lines.specs.Machine.{Ready};
+
+// What handing over a piece gives: whether all that it says was written, and the state after it, with nothing left to write.
+struct Handed {
+    written: bool,
+    state: State,
+}
+
+// The state with nothing left to write.
+fn emptied(state: State) -> State
+    ensures { λ r. ⌜ (r .number ≡ state .number) × (r .held ≡ state .held) × (r .wrote ≡ 0) × (r .kept ≡ state .kept) ⌝ }
+{
+    let kept = state.kept;
+    State {
+        number: state.number,
+        held: state.held,
+        wrote: 0,
+        kept,
+    }
+}
+
+// Hands a piece over, and writes what it says. A write that fails ends it.
+fn hand_over(
+    piece: &[u8],
+    state: State,
+    line: &mut [u8],
+    raw: &mut [u8],
+    made: &mut [u8],
+    table: &mut [u8],
+    out: &mut [u8],
+) -> Handed
+    requires { ⌜ (Ready state (now table) (now line)) × (state .number + length (now piece) < 2 ^ 64) × (length (now raw) ≡ 4096) × (length (now made) ≡ 4074) × (state .wrote ≡ 0) × (8192 ≤ length (now out)) ⌝ }
+    ensures { λ r. ⌜ (Ready (r .state) (now (table .exit)) (now (line .exit))) × (r .state .number ≤ state .number + length (now (piece .entry))) × (r .state .wrote ≡ 0) ⌝ }
+{
+    let mut at = 0;
+    let mut now = state;
+    while at < piece.len() {
+        let progress = feed(&piece[at..], now, line, raw, made, table, out);
+        at += progress.taken;
+        let after = progress.state;
+        let wrote = after.wrote;
+        now = emptied(after);
+        if !io::write_all(STDOUT_FILENO, &out[..wrote]) {
+            return Handed {
+                written: false,
+                state: now,
+            };
+        }
+    }
+    Handed {
+        written: true,
+        state: now,
+    }
+}
+
+// Says that standard input can't be read.
+fn say_unread() {
+    let said = [
+        b'd',
+        b'e',
+        b's',
+        b'k',
+        b':',
+        b' ',
+        b'r',
+        b'e',
+        b'a',
+        b'd',
+        b' ',
+        b'e',
+        b'r',
+        b'r',
+        b'o',
+        b'r',
+        b'\n',
+    ];
+    io::write_all(STDERR_FILENO, &said);
+}
+
+// Answers standard input line by line. Nothing says that an input ends, so the turns are counted down from a number that no run
+// uses up.
+fn main() {
+    let mut chunk = [0u8; 65536];
+    let mut line = [0u8; 8193];
+    let mut raw = [0u8; 4096];
+    let mut made = [0u8; 4074];
+    let mut table = [0u8; 40960];
+    let mut out = [0u8; 65536];
+    let mut state = begin();
+    let mut turns: u64 = 140737488355328;
+    while 0 < turns {
+        let got = libc::read(STDIN_FILENO, &mut chunk);
+        if got < 0 {
+            say_unread();
+            return;
+        }
+        let n = io::count(got, &chunk);
+        if n == 0 {
+            break;
+        }
+        let handed = hand_over(
+            &chunk[..n],
+            state,
+            &mut line,
+            &mut raw,
+            &mut made,
+            &mut table,
+            &mut out,
+        );
+        if !handed.written {
+            return;
+        }
+        state = handed.state;
+        turns -= 1;
+    }
+    let wrote = finish(state, &line, &mut raw, &mut made, &mut table, &mut out);
+    io::write_all(STDOUT_FILENO, &out[..wrote]);
+}

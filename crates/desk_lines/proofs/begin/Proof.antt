@@ -1,0 +1,12 @@
+-- `begin` meets its contract.
+use mathlib.Core.Path.{refl}
+use Rattle.desk_lines.specs.Machine.{begun}
+use Rattle.desk_lines.proofs.begin.Statement.{statement}
+use Rattle.desk_lines.proofs.begin.Tie as tie
+
+returns : tie.Need-returns
+unfolding begun
+returns c = refl
+
+pub begin-spec : {M : Type 1} → statement M
+begin-spec = tie.close (tie.spec returns)

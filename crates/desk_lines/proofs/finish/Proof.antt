@@ -1,0 +1,57 @@
+-- `finish` meets its contract.
+use mathlib.Core.Path.{sym}
+use native.Mathlib.Omega.{arith}
+use denote.Ref.{now}
+use lib.Seq.{length-take-le}
+use Rattle.octets.proofs.Writing.{stored-none}
+use Rattle.desk_lines.proofs.Feeding.{ended-none, ended-said}
+use borrow.Author.Needs.{needs}
+use Rattle.desk_lines.proofs.finish.Statement.{statement}
+use Rattle.desk_lines.proofs.finish.Tie as tie
+
+returns : tie.Need-returns
+returns c =
+    let b = c .before .before .before .before .before .before in
+    let a = b .args in
+    (stored-none (now (a .out)) (a .state .wrote) (ended-none (a .state) (now (a .table)) (now (a .line)) (c .if1 .taken)), omega arith)
+
+slice-aggregate-answer-line : tie.Need-slice-aggregate-answer-line
+slice-aggregate-answer-line c =
+    let b = c .before .before .before .before .before .before .before in
+    let a = b .args in
+    sym (length-take-le (a .state .held) (now (a .line)) (omega (arith, b .pre .0 .held, b .pre .0 .size)))
+
+answer-line-requires : tie.Need-answer-line-requires
+answer-line-requires c κs = search needs
+
+same-length : tie.Need-same-length
+same-length c = search needs
+
+same-length-2 : tie.Need-same-length-2
+same-length-2 c = search needs
+
+same-length-3 : tie.Need-same-length-3
+same-length-3 c = search needs
+
+same-length-4 : tie.Need-same-length-4
+same-length-4 c = search needs
+
+returns-2 : tie.Need-returns-2
+returns-2 c =
+    let b = c .before .before .before .before .before .before .before .before .before .before .before .before .before .before .before .before .before .before .before .before in
+    let a = b .args in
+    let w = c .before .before .before .before .before .before .before .before .answer-line .ensures in
+    (rw (ended-said (a .state) (now (a .table)) (now (a .line)) (b .pre .0) (c .before .before .before .before .before .before .before .before .before .before .before .before .before .before .if1 .left)) (w .said), w .room)
+
+pub finish-spec : {M : Type 1} → statement M
+finish-spec =
+    tie.close
+    (tie.spec
+    returns
+    slice-aggregate-answer-line
+    answer-line-requires
+    same-length
+    same-length-2
+    same-length-3
+    same-length-4
+    returns-2)

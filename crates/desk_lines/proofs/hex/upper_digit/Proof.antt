@@ -1,0 +1,24 @@
+-- `upper_digit` meets its contract: the test is the definition's.
+use mathlib.Core.Path.{refl}
+use borrow.Author.Needs.{needs}
+use borrow.Author.Tests.{lt-ltb, le-ltb}
+use Rattle.rules.specs.Desk.{upperDigit}
+use Rattle.desk_lines.proofs.hex.upper_digit.Statement.{statement}
+use Rattle.desk_lines.proofs.hex.upper_digit.Tie as tie
+
+add-result : tie.Need-add-result
+add-result c = search needs
+
+add-result-2 : tie.Need-add-result-2
+add-result-2 c = search needs
+
+returns : tie.Need-returns
+unfolding upperDigit
+returns c = rw (lt-ltb (c .before .args .d) 10 (c .if1 .taken)) refl
+
+returns-2 : tie.Need-returns-2
+unfolding upperDigit
+returns-2 c = rw (le-ltb (c .before .args .d) 10 (c .if1 .left)) refl
+
+pub upper-digit-spec : {M : Type 1} → statement M
+upper-digit-spec = tie.close (tie.spec add-result add-result-2 returns returns-2)

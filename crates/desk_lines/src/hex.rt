@@ -1,0 +1,94 @@
+// Hexadecimal and decimal text (01, "The desk program").
+use octets::buffer::put_byte;
+ghost use mathlib.Core.Path.{_≡_};
+ghost use Prim.Native.Nat.{ℕ, _+_, _*_, _%_, _≤_, _<_};
+ghost use lib.ListN.{length};
+ghost use Rattle.rules.specs.Bytes.{every, over};
+ghost use Rattle.rules.specs.Desk.{digit, isDigit, upperDigit, toHex, decimalUpTo};
+ghost use Rattle.octets.specs.Buffer.{Stored};
+ghost use Rattle.desk_lines.specs.Hex.{spelled};
+
+// The value of a hex digit of either case, 16 for any other byte.
+fn digit_of(b: u8) -> u8
+    ensures { λ r. ⌜ (r ≡ digit b) × (r ≤ 16) ⌝ }
+{
+    if b < 48 {
+        return 16;
+    }
+    if b <= 57 {
+        return b - 48;
+    }
+    if b < 65 {
+        return 16;
+    }
+    if b <= 70 {
+        return b - 55;
+    }
+    if b < 97 {
+        return 16;
+    }
+    if b <= 102 {
+        return b - 87;
+    }
+    16
+}
+
+// Stores the bytes that a line's pairs of digits spell, up to the first pair with a bad digit, and says whether there is none.
+// Internal.
+pub fn decode(line: &[u8], raw: &mut [u8]) -> bool
+    requires { ⌜ (length (now line) % 2 ≡ 0) × (length (now line) ≤ 2 * length (now raw)) ⌝ }
+    ensures { λ r. ⌜ (r ≡ every isDigit (now (line .entry))) × (now (raw .exit) ≡ over (spelled (now (line .entry))) (now (raw .entry))) ⌝ }
+{
+    let mut at = 0;
+    let mut n = 0;
+    while at < line.len() {
+        let high = digit_of(line[at]);
+        let low = digit_of(line[at + 1]);
+        if 15 < high {
+            return false;
+        }
+        if 15 < low {
+            return false;
+        }
+        raw[n] = 16 * high + low;
+        n += 1;
+        at += 2;
+    }
+    true
+}
+
+// The upper-case digit of a value below 16. Internal.
+fn upper_digit(d: u8) -> u8
+    requires { ⌜ d < 16 ⌝ }
+    ensures { λ r. ⌜ r ≡ upperDigit d ⌝ }
+{
+    if d < 10 { 48 + d } else { 55 + d }
+}
+
+// Stores bytes as upper-case digits. Internal.
+pub fn put_hex(src: &[u8], out: &mut [u8], at: usize) -> usize
+    requires { ⌜ at + 2 * length (now src) ≤ length (now out) ⌝ }
+    ensures { λ r. ⌜ Stored (now (out .entry)) at (toHex (now (src .entry))) r (now (out .exit)) ⌝ }
+{
+    let mut i = 0;
+    let mut w = at;
+    while i < src.len() {
+        let b = src[i];
+        w = put_byte(upper_digit(b / 16), out, w);
+        w = put_byte(upper_digit(b % 16), out, w);
+        i += 1;
+    }
+    w
+}
+
+// Stores a number in decimal. Internal.
+pub fn put_decimal(n: u64, out: &mut [u8], at: usize) -> usize
+    requires { ⌜ at + 20 ≤ length (now out) ⌝ }
+    ensures { λ r. ⌜ ((f : ℕ) → n < f → Stored (now (out .entry)) at (decimalUpTo f n) r (now (out .exit))) ⌝ }
+{
+    if n < 10 {
+        return put_byte(48 + n as u8, out, at);
+    }
+    let w = put_decimal(n / 10, out, at);
+    put_byte(48 + (n % 10) as u8, out, w)
+}
