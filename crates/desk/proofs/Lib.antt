@@ -1,0 +1,2 @@
+-- Laws of handing over.
+pub mod Handing
