@@ -1,5 +1,6 @@
 //! Choosing among 64 candidates of each kind, and comparing two, with the results stored here.
-use bgp_policy::{better, block_of, choose, hex, table, Candidate, Offer, BLOCK_MAX};
+use bgp_policy::{better, choose, table, Candidate, Offer, BLOCK_MAX};
+use policy_tests::{block_of, hex};
 
 const CLIENT: u32 = 7;
 

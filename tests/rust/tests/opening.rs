@@ -1,5 +1,6 @@
 //! Opening a session by document 01, run at the function with the results stored here.
-use bgp_policy::{hex, open};
+use bgp_policy::open;
+use policy_tests::hex;
 
 const PROVIDER: u8 = 0;
 const RS: u8 = 1;

@@ -1,5 +1,6 @@
 //! Origin state and received tag: the cases that document 01 names and the limits, with the results stored here.
-use bgp_policy::{block_of, hex, origin_state, received_tag, BLOCK_MAX};
+use bgp_policy::{origin_state, received_tag, BLOCK_MAX};
+use policy_tests::{block_of, hex};
 
 const VALID: usize = 0;
 const NOT_FOUND: usize = 1;

@@ -1,7 +1,6 @@
 //! The cases that document 01 names, run at the functions with the results stored here.
-use bgp_policy::{
-    block_of, expected_buffer, hex, patterns, receive, send, shown, Session, BLOCK_MAX, OWN_ROUTE,
-};
+use bgp_policy::{receive, send, Session, BLOCK_MAX, OWN_ROUTE};
+use policy_tests::{block_of, expected_buffer, hex, patterns, shown};
 
 const PROVIDER: u8 = 0;
 const RS: u8 = 1;

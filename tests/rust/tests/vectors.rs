@@ -1,10 +1,11 @@
 //! Every line of ../vectors but the desk's, through the library: the answer, the number beside it, and the output buffer to its
 //! end.
-use bgp_policy::lines::{bytes, every, number, optional, Compared};
 use bgp_policy::{
-    better, choose, counterpart, expected_buffer, open, origin_state, patterns, receive,
-    received_tag, send, shown, table, Candidate, Offer, Session, BLOCK_MAX, OWN_ROUTE,
+    better, choose, open, origin_state, receive, received_tag, send, table, Candidate, Offer,
+    Session, BLOCK_MAX, OWN_ROUTE,
 };
+use policy_tests::lines::{bytes, every, number, optional, Compared};
+use policy_tests::{counterpart, expected_buffer, patterns, shown};
 
 // One call in each of two buffers of `cap` bytes, against the three fields after `=>`: answer, number beside it, block stored.
 fn call(cap: &str, expected: &[&str], run: impl Fn(&mut [u8]) -> (u8, usize)) -> Compared {
@@ -128,7 +129,12 @@ fn choose_line(fields: &[&str]) -> Compared {
         (0, Some((index, left))) => (number(index), number(left)),
         _ => (optional(beside).unwrap_or(0), 0),
     };
-    let got = choose(number(mode), number(client), &bytes(buffer), &table(&offers));
+    let got = choose(
+        number(mode),
+        number(client),
+        &bytes(buffer),
+        &table(&offers),
+    );
     if got != (answer, beside, left) {
         return Err(format!(
             "answered {got:?}, expected {:?}",

@@ -1,0 +1,258 @@
+//! The proved library as safe Rust: a crate to copy. `include/bgp_policy.h` says what the arguments and answers mean.
+
+/// Document 01's size of an attribute block: an output buffer of this length is always enough.
+pub const BLOCK_MAX: usize = 4073;
+
+/// The source of an own route.
+pub const OWN_ROUTE: u8 = 255;
+
+/// A session as one end sees it.
+#[derive(Clone, Copy, Debug)]
+pub struct Session {
+    pub local_as: u32,
+    pub remote_as: u32,
+    pub local_role: u8,
+    pub mode: u8,
+}
+
+// A slice passes as its pointer and then its length.
+extern "C" {
+    fn bgp_open(
+        local_role: u8,
+        strict: u8,
+        parameters: *const u8,
+        parameters_len: usize,
+        beside: *mut usize,
+    ) -> u8;
+
+    fn bgp_receive(
+        local_as: u32,
+        remote_as: u32,
+        local_role: u8,
+        mode: u8,
+        block: *const u8,
+        block_len: usize,
+        out: *mut u8,
+        out_len: usize,
+        beside: *mut usize,
+    ) -> u8;
+
+    fn bgp_send(
+        local_as: u32,
+        remote_as: u32,
+        local_role: u8,
+        mode: u8,
+        source: u8,
+        state: u8,
+        block: *const u8,
+        block_len: usize,
+        out: *mut u8,
+        out_len: usize,
+        beside: *mut usize,
+    ) -> u8;
+
+    fn bgp_origin_state(
+        prefix_length: u8,
+        prefix: u32,
+        own_as: u32,
+        table: *const u8,
+        table_len: usize,
+        block: *const u8,
+        block_len: usize,
+        beside: *mut usize,
+    ) -> u8;
+
+    fn bgp_received_tag(block: *const u8, block_len: usize, beside: *mut usize) -> u8;
+
+    fn bgp_choose(
+        mode: u8,
+        client: u32,
+        buffer: *const u8,
+        buffer_len: usize,
+        candidates: *const u8,
+        candidates_len: usize,
+        beside: *mut usize,
+        left: *mut usize,
+    ) -> u8;
+
+    fn bgp_better(
+        first: *const u8,
+        first_len: usize,
+        state: u8,
+        identifier: u32,
+        address: u32,
+        second: *const u8,
+        second_len: usize,
+        other_state: u8,
+        other_identifier: u32,
+        other_address: u32,
+        beside: *mut usize,
+    ) -> u8;
+}
+
+/// A candidate as it is offered to choosing: its block is `size` bytes of one buffer, from `start` on.
+#[derive(Clone, Copy, Debug)]
+pub struct Offer {
+    pub start: u32,
+    pub size: u32,
+    pub state: u8,
+    pub identifier: u32,
+    pub address: u32,
+}
+
+/// A candidate of a comparison, with a block of its own.
+#[derive(Clone, Copy, Debug)]
+pub struct Candidate<'a> {
+    pub block: &'a [u8],
+    pub state: u8,
+    pub identifier: u32,
+    pub address: u32,
+}
+
+/// The table of candidates that choosing takes: 17 bytes to each, numbers high byte first.
+pub fn table(offers: &[Offer]) -> Vec<u8> {
+    let mut bytes = Vec::new();
+    for offer in offers {
+        bytes.extend(offer.start.to_be_bytes());
+        bytes.extend(offer.size.to_be_bytes());
+        bytes.push(offer.state);
+        bytes.extend(offer.identifier.to_be_bytes());
+        bytes.extend(offer.address.to_be_bytes());
+    }
+    bytes
+}
+
+// What `beside` holds before a call, so that a call that leaves it alone is seen.
+const UNSET: usize = usize::MAX;
+
+/// Opening of a session: the answer number and the number beside it (the remote role on answer 0).
+pub fn open(local_role: u8, strict: u8, parameters: &[u8]) -> (u8, usize) {
+    let mut beside = UNSET;
+    // Safe: the pointer and length are those of a slice, and `beside` lies outside it.
+    let answer = unsafe {
+        bgp_open(
+            local_role,
+            strict,
+            parameters.as_ptr(),
+            parameters.len(),
+            &mut beside,
+        )
+    };
+    (answer, beside)
+}
+
+/// Receipt of a block: the answer number and the number beside it (the written length on answer 0).
+pub fn receive(session: Session, block: &[u8], out: &mut [u8]) -> (u8, usize) {
+    let mut beside = UNSET;
+    // Safe: the pointers and lengths are those of slices, and `out`, being `&mut`, overlaps nothing.
+    let answer = unsafe {
+        bgp_receive(
+            session.local_as,
+            session.remote_as,
+            session.local_role,
+            session.mode,
+            block.as_ptr(),
+            block.len(),
+            out.as_mut_ptr(),
+            out.len(),
+            &mut beside,
+        )
+    };
+    (answer, beside)
+}
+
+/// Sending of a block: the answer number and the number beside it (the written length on answer 0).
+pub fn send(session: Session, source: u8, state: u8, block: &[u8], out: &mut [u8]) -> (u8, usize) {
+    let mut beside = UNSET;
+    // Safe: as in `receive`.
+    let answer = unsafe {
+        bgp_send(
+            session.local_as,
+            session.remote_as,
+            session.local_role,
+            session.mode,
+            source,
+            state,
+            block.as_ptr(),
+            block.len(),
+            out.as_mut_ptr(),
+            out.len(),
+            &mut beside,
+        )
+    };
+    (answer, beside)
+}
+
+/// The origin state of the route `prefix`/`prefix_length`: the answer number and the number beside it (the state on answer 0).
+pub fn origin_state(
+    prefix_length: u8,
+    prefix: u32,
+    own_as: u32,
+    table: &[u8],
+    block: &[u8],
+) -> (u8, usize) {
+    let mut beside = UNSET;
+    // Safe: as in `open`.
+    let answer = unsafe {
+        bgp_origin_state(
+            prefix_length,
+            prefix,
+            own_as,
+            table.as_ptr(),
+            table.len(),
+            block.as_ptr(),
+            block.len(),
+            &mut beside,
+        )
+    };
+    (answer, beside)
+}
+
+/// The state that the tags received in a block tell: the answer number and the number beside it (the state on answer 0).
+pub fn received_tag(block: &[u8]) -> (u8, usize) {
+    let mut beside = UNSET;
+    // Safe: as in `open`.
+    let answer = unsafe { bgp_received_tag(block.as_ptr(), block.len(), &mut beside) };
+    (answer, beside)
+}
+
+/// The route for a client: the answer number, the number beside it (the index on answer 0), and how many were left.
+pub fn choose(mode: u8, client: u32, buffer: &[u8], candidates: &[u8]) -> (u8, usize, usize) {
+    let (mut beside, mut left) = (UNSET, UNSET);
+    // Safe: as in `open`; `left` lies outside the slices too.
+    let answer = unsafe {
+        bgp_choose(
+            mode,
+            client,
+            buffer.as_ptr(),
+            buffer.len(),
+            candidates.as_ptr(),
+            candidates.len(),
+            &mut beside,
+            &mut left,
+        )
+    };
+    (answer, beside, left)
+}
+
+/// The better of two candidates: the answer number and the number beside it (the winner's index on answer 0).
+pub fn better(first: Candidate, second: Candidate) -> (u8, usize) {
+    let mut beside = UNSET;
+    // Safe: as in `open`.
+    let answer = unsafe {
+        bgp_better(
+            first.block.as_ptr(),
+            first.block.len(),
+            first.state,
+            first.identifier,
+            first.address,
+            second.block.as_ptr(),
+            second.block.len(),
+            second.state,
+            second.identifier,
+            second.address,
+            &mut beside,
+        )
+    };
+    (answer, beside)
+}
