@@ -1,4 +1,5 @@
-//! Links the proved static library: from the folder that BGP_POLICY_LIB names, else from target/staticlib at the repository's top.
+//! Links the proved static library, libbgp_policy.a (installed) or libc_api.a (as built): from the folder that BGP_POLICY_LIB
+//! names, else from target/staticlib at the repository's top.
 use std::path::{Path, PathBuf};
 
 fn main() {
@@ -7,15 +8,19 @@ fn main() {
         Some(folder) => PathBuf::from(folder),
         None => Path::new(env!("CARGO_MANIFEST_DIR")).join("../../../target/staticlib"),
     };
-    let library = folder.join("libc_api.a");
-    println!("cargo:rerun-if-changed={}", library.display());
-    if !library.is_file() {
-        eprintln!(
-            "{} is missing: run `rt staticlib c_api` at the repository's top first",
-            library.display()
-        );
-        std::process::exit(1);
+    for name in ["bgp_policy", "c_api"] {
+        let library = folder.join(format!("lib{name}.a"));
+        if library.is_file() {
+            println!("cargo:rerun-if-changed={}", library.display());
+            println!("cargo:rustc-link-search=native={}", folder.display());
+            println!("cargo:rustc-link-lib=static={name}");
+            return;
+        }
     }
-    println!("cargo:rustc-link-search=native={}", folder.display());
-    println!("cargo:rustc-link-lib=static=c_api");
+    eprintln!(
+        "{} has no libbgp_policy.a and no libc_api.a: set BGP_POLICY_LIB to the library's folder, \
+         or run `rt staticlib c_api` at the repository's top",
+        folder.display()
+    );
+    std::process::exit(1);
 }

@@ -1,0 +1,225 @@
+/*
+ * Every function of bgp_policy.h on cases of document 01: the answer, the number beside it and every byte of the buffer, and
+ * that the bytes handed in stay. Prints a line for each check, last 'N passed, M failed'; the status is 0 where none failed.
+ */
+#include <bgp_policy.h>
+#include <stdio.h>
+#include <string.h>
+
+#define BLOCK_MAX 4073
+#define TABLE_MAX 40970 /* one VRP too many */
+#define MARK 0xA5       /* in every byte that no call has written */
+#define UNSET ((size_t)-1)
+
+/* Attribute blocks, in hex */
+#define OWN "40010100400200"                   /* ORIGIN and an empty AS_PATH */
+#define PATH "4001010040020602010000FBFE"      /* the same with the path 64510 */
+#define BY_64500 "4001010040020602010000FBF4"  /* with the path 64500 */
+#define FINAL_SET "4001010040020601010000FBF4" /* with the set of 64500 */
+#define OTC "C02304"                           /* the header of an OTC */
+#define TAG "43000000000000"                   /* a tag but for its state */
+#define OTHER "0002000000000000"               /* a community that is no tag */
+#define FULL OWN "D0630FDE"                    /* with zeros after it: 4,073 bytes */
+#define OVER OWN "D0630FDF"                    /* 4,074 */
+
+static uint8_t in[2][TABLE_MAX], kept[2][TABLE_MAX]; /* what is handed in, and a copy */
+static uint8_t out[BLOCK_MAX + 16], after[BLOCK_MAX + 16];
+static size_t beside, left;
+static unsigned passed, failed;
+
+/* The bytes that hex digits spell go to `to`; gives how many there are. */
+static size_t spell(const char *digits, uint8_t *to)
+{
+    static const char all[] = "0123456789ABCDEF";
+    size_t i, length = strlen(digits) / 2;
+    for (i = 0; i < length; i++)
+        to[i] = (uint8_t)((strchr(all, digits[2 * i]) - all) * 16 + (strchr(all, digits[2 * i + 1]) - all));
+    return length;
+}
+
+/* The digits of `head`, `unit` as often as said, and `tail`; the two last texts stand. */
+static const char *text(const char *head, const char *unit, size_t times, const char *tail)
+{
+    static char texts[2][2 * TABLE_MAX + 1];
+    static int turn;
+    char *end = texts[turn = !turn];
+    end += strlen(strcpy(end, head));
+    while (times-- > 0)
+        end += strlen(strcpy(end, unit));
+    strcpy(end, tail);
+    return texts[turn];
+}
+
+/* The digits of `head`, and zeros up to so many bytes. */
+static const char *filled(const char *head, size_t length)
+{
+    return text(head, "00", length - strlen(head) / 2, "");
+}
+
+/* Hands in one of the two inputs, and makes the rest ready for a call. */
+static size_t hand(int which, const char *digits)
+{
+    size_t length;
+    memset(in[which], MARK, TABLE_MAX);
+    length = spell(digits, in[which]);
+    memcpy(kept[which], in[which], TABLE_MAX);
+    memset(out, MARK, sizeof out);
+    beside = left = UNSET;
+    return length;
+}
+
+/* One check, of what the call just made has given and stored. */
+static void check(const char *function, const char *name, unsigned answer,
+                  unsigned want, size_t want_beside, size_t want_left, const char *stored)
+{
+    int ok;
+    memset(after, MARK, sizeof after);
+    spell(stored, after);
+    ok = answer == want && beside == want_beside && left == want_left &&
+         memcmp(out, after, sizeof out) == 0 && memcmp(in, kept, sizeof in) == 0;
+    printf("%s: %s: %s: %u beside %lu\n", ok ? "ok" : "FAILED", function, name, answer, (unsigned long)beside);
+    if (ok) {
+        passed++;
+    } else {
+        printf("  wanted %u beside %lu, and %u bytes stored\n", want, (unsigned long)want_beside, (unsigned)strlen(stored) / 2);
+        failed++;
+    }
+}
+
+static void opening(const char *name, uint8_t role, uint8_t strict, const char *parameters, unsigned want, size_t want_beside)
+{
+    size_t n = hand(0, parameters);
+    check("bgp_open", name, bgp_open(role, strict, in[0], n, &beside), want, want_beside, UNSET, "");
+}
+
+/* Receipt at AS 64500 from AS 64510; on answer 0 `stored` is the new block, else "". */
+static void receipt(const char *name, uint8_t role, uint8_t mode, const char *block, size_t room,
+                    unsigned want, size_t want_beside, const char *stored)
+{
+    size_t n = hand(0, block);
+    check("bgp_receive", name, bgp_receive(64500, 64510, role, mode, in[0], n, out, room, &beside),
+          want, want_beside, UNSET, stored);
+}
+
+/* Sending by AS 64500 to AS 64510, likewise. */
+static void sending(const char *name, uint8_t role, uint8_t mode, uint8_t source, uint8_t state, const char *block, size_t room,
+                    unsigned want, size_t want_beside, const char *stored)
+{
+    size_t n = hand(0, block);
+    check("bgp_send", name, bgp_send(64500, 64510, role, mode, source, state, in[0], n, out, room, &beside),
+          want, want_beside, UNSET, stored);
+}
+
+static void origin(const char *name, uint8_t length, uint32_t prefix, const char *table, const char *block,
+                   unsigned want, size_t want_beside)
+{
+    size_t t = hand(0, table), n = hand(1, block);
+    check("bgp_origin_state", name, bgp_origin_state(length, prefix, 64500, in[0], t, in[1], n, &beside),
+          want, want_beside, UNSET, "");
+}
+
+static void tag(const char *name, const char *block, unsigned want, size_t want_beside)
+{
+    size_t n = hand(0, block);
+    check("bgp_received_tag", name, bgp_received_tag(in[0], n, &beside), want, want_beside, UNSET, "");
+}
+
+/* Choosing among candidates with the blocks PATH (at 0), OWN (at 13) and OWN with an OTC (at 20), 34 bytes in all. */
+static void choosing(const char *name, uint8_t mode, uint32_t client, const char *candidates,
+                     unsigned want, size_t want_beside, size_t want_left)
+{
+    size_t c = hand(0, candidates), n = hand(1, PATH OWN OWN OTC "00000001");
+    check("bgp_choose", name, bgp_choose(mode, client, in[1], n, in[0], c, &beside, &left), want, want_beside, want_left, "");
+}
+
+/* Comparing two of state 0 (the second's may be another), with the identifiers 1 and 2 and one address. */
+static void comparing(const char *name, const char *first, const char *second, uint8_t state, unsigned want, size_t want_beside)
+{
+    size_t m = hand(0, first), n = hand(1, second);
+    check("bgp_better", name, bgp_better(in[0], m, 0, 1, 7, in[1], n, state, 2, 7, &beside), want, want_beside, UNSET, "");
+}
+
+int main(void)
+{
+    /* Roles: 0 Provider, 1 RS, 2 RS-Client, 3 Customer, 4 Peer; the role given is this end's */
+    static const char vrp[] = "0A00000010140000FBF4"; /* 10.0.0.0/16, maximum 20, AS 64500 */
+    static const char path[] = "000000000000000D000000000A0A000001", own[] = "0000000D0000000702000000140A000002";
+    static const char with_otc[] = "000000140000000E00000000010A000003", outside[] = "0000001C0000000700000000010A000004";
+    const char *block;
+
+    opening("P1, both Peers", 4, 1, "0203090104", 0, 4);
+    opening("a Provider's end, no role named", 0, 0, "", 0, 3);
+    opening("255 bytes", 4, 1, filled("02FD09010441F8", 255), 0, 4);
+    opening("256 bytes", 4, 1, filled("02FD09010441F8", 256), 6, 0);
+    opening("strict, and no role named", 4, 1, "", 4, 0);
+    opening("two unequal roles", 4, 1, "0206090104090103", 4, 0);
+    opening("local role 5", 5, 1, "0203090104", 5, 0);
+    opening("a parameter of type 1", 4, 1, "0103090104", 8, 0);
+
+    receipt("P2, from a Peer", 4, 1, PATH, BLOCK_MAX, 0, 20, PATH OTC "0000FBFE");
+    receipt("P2, just room", 4, 1, PATH, 20, 0, 20, PATH OTC "0000FBFE");
+    receipt("P2, a byte too little", 4, 1, PATH, 19, 7, 0, "");
+    receipt("P3, a Peer's OTC of another AS", 4, 1, PATH OTC "0000FBF5", BLOCK_MAX, 1, 2, "");
+    receipt("an OTC from a Customer", 0, 1, PATH OTC "0000FBFE", BLOCK_MAX, 1, 1, "");
+    receipt("tags 0 and 7 go", 0, 1, OWN "C01010" TAG "00" TAG "07", BLOCK_MAX, 0, 7, OWN);
+    block = filled(FULL, 4073);
+    receipt("4,073 bytes from a Customer", 0, 1, block, BLOCK_MAX, 0, 4073, block);
+    receipt("4,073 bytes and an OTC", 4, 1, block, sizeof out, 7, 0, "");
+    receipt("4,074 bytes", 0, 1, filled(OVER, 4074), sizeof out, 6, 0, "");
+    receipt("no ORIGIN", 4, 1, "400200", BLOCK_MAX, 3, 3, "");
+    receipt("mode 4", 4, 4, PATH, BLOCK_MAX, 5, 0, "");
+
+    sending("P4, an own route to a Peer", 4, 1, 255, 3, OWN, BLOCK_MAX, 0, 14, OWN OTC "0000FBF4");
+    sending("P4, a byte too little", 4, 1, 255, 3, OWN, 13, 7, 0, "");
+    sending("P5, from a Provider to a Peer", 4, 1, 0, 3, OWN, BLOCK_MAX, 2, 2, "");
+    sending("an OTC to a Peer", 4, 1, 255, 3, OWN OTC "00000001", BLOCK_MAX, 2, 1, "");
+    sending("mode 2, invalid, to an RS-Client", 1, 2, 2, 2, OWN, BLOCK_MAX, 2, 3, "");
+    sending("mode 1, invalid, to an RS-Client", 1, 1, 2, 2, OWN, BLOCK_MAX, 0, 25, OWN "C01008" TAG "02" OTC "0000FBF4");
+    block = text(OWN "C010F0", OTHER, 30, "");
+    sending("30 communities and a tag", 1, 1, 2, 1, block, BLOCK_MAX, 0, 265,
+            text(OWN "C010F8", OTHER, 30, TAG "01" OTC "0000FBF4"));
+    block = text(OWN "C010F8", OTHER, 31, "");
+    sending("31 communities and a tag", 1, 1, 2, 1, block, BLOCK_MAX, 0, 274,
+            text(OWN "D0100100", OTHER, 31, TAG "01" OTC "0000FBF4"));
+    block = filled(FULL, 4073);
+    sending("4,073 bytes to a Provider", 3, 1, 255, 3, block, BLOCK_MAX, 0, 4073, block);
+    sending("4,074 bytes", 3, 1, 255, 3, filled(OVER, 4074), sizeof out, 6, 0, "");
+    sending("an OTC of 3 bytes", 4, 1, 255, 3, OWN "C02303000001", BLOCK_MAX, 3, 5, "");
+    sending("source 5", 4, 1, 5, 3, OWN, BLOCK_MAX, 5, 0, "");
+
+    origin("P6, 10.0.16.0/20", 20, 0x0A001000, vrp, BY_64500, 0, 0);
+    origin("P7, 10.0.16.0/21", 21, 0x0A001000, vrp, BY_64500, 0, 2);
+    origin("P8, 10.1.0.0/20", 20, 0x0A010000, vrp, BY_64500, 0, 1);
+    origin("P9, a final set", 20, 0x0A001000, vrp, FINAL_SET, 0, 2);
+    origin("an empty path", 20, 0x0A001000, vrp, OWN, 0, 0);
+    origin("4,096 VRPs", 20, 0x0A001000, text("", "0A000000101400000000", 4095, vrp), BY_64500, 0, 0);
+    origin("4,097 VRPs", 20, 0x0A001000, text("", vrp, 4097, ""), BY_64500, 6, 0);
+    origin("a table of 11 bytes", 20, 0x0A001000, text(vrp, "00", 1, ""), BY_64500, 6, 0);
+    origin("the second VRP bad", 20, 0x0A001000, text(vrp, "0A00000010210000FBF4", 2, ""), BY_64500, 9, 1);
+    origin("prefix length 33", 33, 0x0A001000, vrp, BY_64500, 5, 0);
+    origin("no AS_PATH", 20, 0x0A001000, vrp, "40010100", 3, 4);
+
+    tag("P10, tags 0 and 7", OWN "C01010" TAG "00" TAG "07", 0, 0);
+    tag("tags 2 and 1", OWN "C01010" TAG "02" TAG "01", 0, 2);
+    tag("no tag", OWN, 0, 3);
+    tag("communities of 0 bytes", OWN "C01000", 3, 6);
+    tag("4,074 bytes", filled(OVER, 4074), 6, 0);
+
+    choosing("the shortest path", 1, 9, text(path, own, 1, with_otc), 0, 1, 2);
+    choosing("mode 2 removes the invalid", 2, 9, text(path, own, 1, with_otc), 0, 0, 1);
+    choosing("the client's own route removed", 0, 0x0A000002, text(path, own, 1, with_otc), 0, 0, 1);
+    choosing("64 candidates", 3, 9, text("", path, 64, ""), 0, 0, 64);
+    choosing("65 candidates", 3, 9, text("", path, 65, ""), 6, 0, 0);
+    choosing("a table of 18 bytes", 0, 9, text(path, "00", 1, ""), 6, 0, 0);
+    choosing("the second outside the buffer", 0, 9, text(path, outside, 1, own), 10, 1, 0);
+    choosing("only a block with an OTC", 0, 9, with_otc, 11, 0, 0);
+    choosing("mode 4", 4, 9, path, 5, 0, 0);
+
+    comparing("the shorter path", PATH, OWN, 0, 0, 1);
+    comparing("the lower identifier", OWN, OWN, 3, 0, 0);
+    comparing("the first malformed", "400200", OWN, 0, 10, 0);
+    comparing("state 4 of the second", PATH, OWN, 4, 10, 1);
+
+    printf("%u passed, %u failed\n", passed, failed);
+    return failed != 0;
+}
