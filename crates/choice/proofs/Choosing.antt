@@ -14,7 +14,7 @@ use Rattle.rules.specs.Settings.{candidatesMax, modeOk, modeMeant}
 use Rattle.rules.specs.Choice.{Candidate, Offer, Choice, candidate, badCandidate, badOffer, remaining, chosenFrom, keys, before, choose, better}
 use Rattle.rules.specs.declared.Refusal.the-variants.{BadSetting, BadLength, BadCandidate, NoRoute}
 use Rattle.rules.proofs.Lists.{Past, past-found, past-end}
-use Rattle.rules.proofs.Fixed.{whole-mod, not-whole-mod, whole-length}
+use Rattle.rules.proofs.Fixed.{whole-mod, not-whole-mod, whole-count}
 use Rattle.choice.specs.Entries.{entryOf, keysOf}
 use Rattle.choice.specs.Offers.{offerSize, offer, offers, chooseIn}
 
@@ -66,7 +66,7 @@ module _ (mode client : ℕ) (buffer s : List ℕ) where
     module _ (m : length s % 17 ≡ 0) where
       count : length s ≡ 17 * length (offers s)
       unfolding offers
-      count = omega (arith, whole-length 17 (omega arith) s m, length-map (chop (by 17) s .items) offer)
+      count = whole-count offer 17 (omega arith) s m
 
       pub choose-many : 1088 < length s → refused BadLength ≡ chooseIn mode client buffer s
       unfolding modeOk

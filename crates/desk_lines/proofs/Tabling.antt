@@ -17,7 +17,7 @@ use Rattle.rules.specs.Desk.{Desk, sessionFrame, receiptFrame, sendingFrame, vr
 use Rattle.rules.specs.declared.Refusal.the-variants.{BadLength, BadVrp, Unreadable}
 use Rattle.rules.specs.declared.Written.{Written}
 use Rattle.rules.specs.declared.Written.the-variants.{Bytes, Refused}
-use Rattle.rules.proofs.Fixed.{whole-length, items-more}
+use Rattle.rules.proofs.Fixed.{whole-count, items-more}
 use Rattle.rules.proofs.Lists.{exists-append}
 use Rattle.octets.specs.Buffer.{splice, Stored}
 use Rattle.octets.proofs.Splices.{splice-length}
@@ -43,9 +43,7 @@ module _ {used : ℕ} {table : List ℕ} (k : Keeps used table) where
 
   records : used ≡ 10 * length taken
   unfolding vrps vrpSize
-  records =
-      sym taken-length ∙ whole-length 10 (omega arith) (take used table) taken-whole
-      ∙ ap (λ (m : ℕ). 10 * m) (sym (length-map (chop (by 10) (take used table) .items) (vrp ipv4)))
+  records = sym taken-length ∙ whole-count (vrp ipv4) 10 (omega arith) (take used table) taken-whole
 
   module _ (f made : List ℕ) where
     pub vrp-short : length f < 11 → Replies (vrpFrame taken f) made (Refused Unreadable)
