@@ -1,6 +1,10 @@
 //! What the tests of the proved library share: bytes and hex, buffers to be compared to their end, the lines of ../vectors.
 
+pub mod generate;
 pub mod lines;
+pub mod reference;
+pub mod stream;
+pub mod tables;
 
 /// The other role of a pair; a value that is no role stays.
 pub fn counterpart(role: u8) -> u8 {

@@ -1,0 +1,80 @@
+//! Receipt and sending: the verdict on a block, and the block that is kept or sent.
+use super::block::Block;
+use super::write::store;
+use super::{remote_role, Answer};
+use super::{BAD_SETTING, LEAK, MALFORMED, TOO_LONG, WITHHELD};
+use super::{CUSTOMER, PEER, PROVIDER, RS, RS_CLIENT};
+use super::{DROP_INVALID, INVALID, MAX_BLOCK, OWN_SOURCE, PRIORITISE, UNAVAILABLE};
+use bgp_policy::Session;
+
+/// Whether every setting of a session is in range.
+pub fn is_session(session: &Session) -> bool {
+    session.local_as != 0
+        && session.remote_as != 0
+        && session.local_as != session.remote_as
+        && session.local_role <= PEER
+        && session.mode <= PRIORITISE
+}
+
+/// What is kept of a block from the other end.
+pub fn receive(session: Session, block: &[u8], out: &mut [u8]) -> Answer {
+    if !is_session(&session) {
+        return (BAD_SETTING, 0);
+    }
+    if block.len() > MAX_BLOCK {
+        return (TOO_LONG, 0);
+    }
+    match Block::read(block) {
+        Ok(block) => receive_read(&session, &block, out),
+        Err(fault) => (MALFORMED, fault),
+    }
+}
+
+/// Receipt of a readable block on a session in range.
+pub fn receive_read(session: &Session, block: &Block, out: &mut [u8]) -> Answer {
+    let from = remote_role(session.local_role);
+    if let Some(otc) = block.otc {
+        if matches!(from, CUSTOMER | RS_CLIENT) {
+            return (LEAK, 1);
+        }
+        if from == PEER && otc != session.remote_as {
+            return (LEAK, 2);
+        }
+    }
+    let marks = matches!(from, PROVIDER | PEER | RS) && block.otc.is_none();
+    store(block, None, marks.then_some(session.remote_as), out)
+}
+
+/// What goes out of a block to the other end.
+pub fn send(session: Session, source: u8, state: u8, block: &[u8], out: &mut [u8]) -> Answer {
+    let known_source = source <= PEER || source == OWN_SOURCE;
+    if !is_session(&session) || !known_source || state > UNAVAILABLE {
+        return (BAD_SETTING, 0);
+    }
+    if block.len() > MAX_BLOCK {
+        return (TOO_LONG, 0);
+    }
+    match Block::read(block) {
+        Ok(block) => send_read(&session, source, state, &block, out),
+        Err(fault) => (MALFORMED, fault),
+    }
+}
+
+fn send_read(session: &Session, source: u8, state: u8, block: &Block, out: &mut [u8]) -> Answer {
+    let to = remote_role(session.local_role);
+    if matches!(to, PROVIDER | PEER | RS) {
+        if block.otc.is_some() {
+            return (WITHHELD, 1);
+        }
+        if !matches!(source, OWN_SOURCE | CUSTOMER) {
+            return (WITHHELD, 2);
+        }
+    }
+    if session.mode == DROP_INVALID && state == INVALID && to == RS_CLIENT {
+        return (WITHHELD, 3);
+    }
+    let tags = to == RS_CLIENT && state != UNAVAILABLE;
+    let marks = matches!(to, CUSTOMER | PEER | RS_CLIENT) && block.otc.is_none();
+    let otc = marks.then_some(session.local_as);
+    store(block, tags.then_some(state), otc, out)
+}

@@ -1,0 +1,198 @@
+//! Receipt and sending: the proved library and the plain implementation agree over seeded inputs, buffers to their end.
+use bgp_policy::{Session, BLOCK_MAX, OWN_ROUTE};
+use policy_tests::generate::{
+    attributes, block, block_of_length, communities, damaged, encode, faulty_block, Attribute,
+    Random, ASNS,
+};
+use policy_tests::tables::Tally;
+use policy_tests::{patterns, reference, shown};
+
+const ROUNDS: usize = 20_000;
+
+// A call of either function.
+#[derive(Clone, Copy, Debug)]
+enum Call {
+    Receive(Session),
+    Send(Session, u8, u8),
+}
+
+impl Call {
+    fn library(self, block: &[u8], out: &mut [u8]) -> (u8, usize) {
+        match self {
+            Call::Receive(session) => bgp_policy::receive(session, block, out),
+            Call::Send(session, source, state) => {
+                bgp_policy::send(session, source, state, block, out)
+            }
+        }
+    }
+
+    fn plain(self, block: &[u8], out: &mut [u8]) -> (u8, usize) {
+        match self {
+            Call::Receive(session) => reference::receive(session, block, out),
+            Call::Send(session, source, state) => {
+                reference::send(session, source, state, block, out)
+            }
+        }
+    }
+}
+
+// One call in both patterns of a buffer of `cap` bytes.
+fn agree(call: Call, block: &[u8], cap: usize, tally: &mut Tally) -> (u8, usize) {
+    let mut told = (0, 0);
+    for before in patterns(cap) {
+        let (mut out, mut expected) = (before.clone(), before);
+        told = call.plain(block, &mut expected);
+        let got = call.library(block, &mut out);
+        assert!(
+            got == told && out == expected,
+            "{call:?}, buffer {cap}, block {}: library {got:?} {}, plain {told:?} {}",
+            shown(block),
+            shown(&out),
+            shown(&expected)
+        );
+    }
+    let (answer, beside) = told;
+    tally.add(answer, if answer == 0 { 0 } else { beside });
+    told
+}
+
+// One call in an ample buffer, then in buffers of the sizes that matter to its answer.
+fn agree_in_sizes(random: &mut Random, call: Call, block: &[u8], tally: &mut Tally) {
+    let (answer, length) = agree(call, block, BLOCK_MAX + random.below(900), tally);
+    if answer == 0 {
+        for cap in length - 2..=length + 2 {
+            agree(call, block, cap, tally);
+        }
+        agree(call, block, random.below(length), tally);
+    } else {
+        agree(call, block, random.pick(&[0, 1, BLOCK_MAX]), tally);
+    }
+}
+
+fn session(random: &mut Random) -> Session {
+    let mut session = Session {
+        local_as: ASNS[0],
+        remote_as: ASNS[1],
+        local_role: random.below(5) as u8,
+        mode: random.below(4) as u8,
+    };
+    match random.below(80) {
+        0 => session.local_as = 0,
+        1 => session.remote_as = 0,
+        2 => session.local_as = session.remote_as,
+        3 => session.local_role = random.pick(&[5, 6, 255]),
+        4 => session.mode = random.pick(&[4, 5, 255]),
+        5..=20 => session.remote_as = random.pick(&ASNS[2..]),
+        _ => {}
+    }
+    session
+}
+
+fn receipt(random: &mut Random) -> Call {
+    Call::Receive(session(random))
+}
+
+fn sending(random: &mut Random) -> Call {
+    let source = match random.below(40) {
+        0 => random.pick(&[5, 6, 254]),
+        1..=16 => OWN_ROUTE,
+        _ => random.below(5) as u8,
+    };
+    let state = match random.below(40) {
+        0 => random.pick(&[4, 5, 255]),
+        _ => random.below(4) as u8,
+    };
+    Call::Send(session(random), source, state)
+}
+
+fn some_block(random: &mut Random) -> Vec<u8> {
+    match random.below(10) {
+        0..=4 => block(random),
+        5..=6 => faulty_block(random),
+        7..=8 => {
+            let sound = block(random);
+            damaged(random, sound)
+        }
+        _ => {
+            let length = random.pick(&[4_055, 4_066, 4_067, 4_073, 4_074, 5_000]);
+            block_of_length(random, length)
+        }
+    }
+}
+
+// Every length at which a tag or an OTC begins to have no room, or the block is too long.
+fn limits(random: &mut Random, call: fn(&mut Random) -> Call, tally: &mut Tally) {
+    for length in (4_030..4_090).chain([4_200, 8_000]) {
+        for _ in 0..25 {
+            let (call, block) = (call(random), block_of_length(random, length));
+            agree_in_sizes(random, call, &block, tally);
+        }
+    }
+}
+
+// Every number of communities around the short form's limit, with any tags among them, in either form.
+fn forms(random: &mut Random, call: fn(&mut Random) -> Call, tally: &mut Tally) {
+    for count in (1..40).flat_map(|count| [count; 20]) {
+        let mut list = attributes(random);
+        list.retain(|attribute| !matches!(attribute.kind, 16 | 35));
+        let value = communities(random, count);
+        let flags = random.pick(&[0xC0, 0xD0, 0xCF]);
+        let kind = 16;
+        list.insert(random.below(list.len()), Attribute { flags, kind, value });
+        let call = call(random);
+        agree_in_sizes(random, call, &encode(&list), tally);
+    }
+}
+
+// Every size of the buffer up to one that is ample.
+fn every_size(random: &mut Random, call: fn(&mut Random) -> Call, tally: &mut Tally) {
+    for _ in 0..100 {
+        let (call, block) = (call(random), block(random));
+        for cap in 0..(block.len() + 20).min(400) {
+            agree(call, &block, cap, tally);
+        }
+    }
+}
+
+fn compare(seed: u64, call: fn(&mut Random) -> Call) -> Tally {
+    let (mut random, mut tally) = (Random(seed), Tally::default());
+    for _ in 0..ROUNDS {
+        let (call, block) = (call(&mut random), some_block(&mut random));
+        agree_in_sizes(&mut random, call, &block, &mut tally);
+    }
+    limits(&mut random, call, &mut tally);
+    forms(&mut random, call, &mut tally);
+    every_size(&mut random, call, &mut tally);
+    tally
+}
+
+const FAULTS: [(u8, usize); 6] = [(3, 1), (3, 2), (3, 3), (3, 4), (3, 5), (3, 6)];
+
+#[test]
+fn receipt_agrees() {
+    let others = [(0, 0), (1, 1), (1, 2), (5, 0), (6, 0), (7, 0)];
+    compare(1, receipt).check("receive", &[&others[..], &FAULTS].concat());
+}
+
+#[test]
+fn sending_agrees() {
+    let others = [(0, 0), (2, 1), (2, 2), (2, 3), (5, 0), (6, 0), (7, 0)];
+    compare(2, sending).check("send", &[&others[..], &FAULTS].concat());
+}
+
+// A block that was sent and is then received, as in a chain.
+#[test]
+fn a_sent_block_is_received_alike() {
+    let (mut random, mut tally) = (Random(3), Tally::default());
+    for _ in 0..ROUNDS {
+        let (call, block) = (sending(&mut random), block(&mut random));
+        let mut sent = vec![0; BLOCK_MAX];
+        let (0, length) = call.library(&block, &mut sent) else {
+            continue;
+        };
+        let call = receipt(&mut random);
+        agree_in_sizes(&mut random, call, &sent[..length], &mut tally);
+    }
+    let expected = [(0, 0), (1, 1), (1, 2), (5, 0), (7, 0)];
+    tally.check("receive of sent", &expected);
+}

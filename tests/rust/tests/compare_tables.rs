@@ -1,0 +1,228 @@
+//! Opening, origin state, received tag, choosing and comparing two: the proved library and the plain implementation agree over
+//! seeded inputs.
+use bgp_policy::{table, Candidate, Offer};
+use policy_tests::generate::{block, block_of_length, damaged, faulty_block, Random, ASNS};
+use policy_tests::tables::{parameters, parameters_of_length, prefix, vrp, Tally};
+use policy_tests::{counterpart, reference, shown};
+
+const ROUNDS: usize = 40_000;
+
+const FAULTS: [(u8, usize); 6] = [(3, 1), (3, 2), (3, 3), (3, 4), (3, 5), (3, 6)];
+
+// A block: mostly readable, else with a fault, damaged, or of a length about the limit.
+fn some_block(random: &mut Random) -> Vec<u8> {
+    match random.below(12) {
+        0 => faulty_block(random),
+        1 => {
+            let sound = block(random);
+            damaged(random, sound)
+        }
+        2 if random.one_in(4) => {
+            let length = random.pick(&[4_072, 4_073, 4_074, 5_000]);
+            block_of_length(random, length)
+        }
+        _ => block(random),
+    }
+}
+
+fn agree_on_open(random: &mut Random, parameters: &[u8], role: u8, tally: &mut Tally) {
+    let local_role = match random.below(30) {
+        0 => random.pick(&[5, 255]),
+        _ => counterpart(role),
+    };
+    let strict = match random.below(30) {
+        0 => random.pick(&[2, 255]),
+        _ => random.below(2) as u8,
+    };
+    let plain = reference::open(local_role, strict, parameters);
+    let library = bgp_policy::open(local_role, strict, parameters);
+    assert!(
+        library == plain,
+        "role {local_role}, strict {strict}, parameters {}: library {library:?}, plain {plain:?}",
+        shown(parameters)
+    );
+    tally.add(plain.0, plain.1);
+}
+
+#[test]
+fn opening_agrees() {
+    let (mut random, mut tally) = (Random(11), Tally::default());
+    for round in 0..ROUNDS {
+        let role = random.below(5) as u8;
+        let mut bytes = parameters(&mut random, role);
+        if round % 4 == 0 {
+            bytes = damaged(&mut random, bytes);
+        }
+        agree_on_open(&mut random, &bytes, role, &mut tally);
+    }
+    for length in (240..270).chain([510, 4_000]).flat_map(|n| [n; 50]) {
+        let role = random.below(5) as u8;
+        let bytes = parameters_of_length(&mut random, role, length);
+        agree_on_open(&mut random, &bytes, role, &mut tally);
+    }
+    let done = [(0, 0), (0, 1), (0, 2), (0, 3), (0, 4)];
+    let refused = [(4, 0), (5, 0), (6, 0), (8, 0)];
+    tally.check("open", &[&done[..], &refused].concat());
+}
+
+fn agree_on_state(random: &mut Random, table: &[u8], block: &[u8], tally: &mut Tally) {
+    let length = match random.below(40) {
+        0 => random.pick(&[33, 34, 255]),
+        1..=4 => random.below(33) as u8,
+        _ => random.pick(&[16, 19, 20, 20, 21, 24]),
+    };
+    let own_as = random.pick(&[ASNS[0], ASNS[1], ASNS[3], 7, 8, 9, 10, 11, 12, 0]);
+    let prefix = prefix(random);
+    let plain = reference::origin_state(length, prefix, own_as, table, block);
+    let library = bgp_policy::origin_state(length, prefix, own_as, table, block);
+    assert!(
+        library == plain,
+        "{prefix:08X}/{length}, own AS {own_as}, table {}, block {}: library {library:?}, plain {plain:?}",
+        shown(table),
+        shown(block)
+    );
+    // Of a bad record only the answer is counted.
+    tally.add(plain.0, if plain.0 == 9 { 0 } else { plain.1 });
+}
+
+#[test]
+fn origin_state_agrees() {
+    let (mut random, mut tally) = (Random(12), Tally::default());
+    for _ in 0..ROUNDS {
+        let count = random.below(9);
+        let mut table: Vec<u8> = (0..count).flat_map(|_| vrp(&mut random, 60)).collect();
+        match random.below(30) {
+            0 => drop(table.pop()),
+            1 => table.push(0),
+            2 => table = damaged(&mut random, table),
+            _ => {}
+        }
+        let block = some_block(&mut random);
+        agree_on_state(&mut random, &table, &block, &mut tally);
+    }
+    for count in [4_095, 4_096, 4_097].iter().flat_map(|n| [*n; 30]) {
+        let bad_in = random.pick(&[10_000, 1_000_000]);
+        let table: Vec<u8> = (0..count).flat_map(|_| vrp(&mut random, bad_in)).collect();
+        let block = some_block(&mut random);
+        agree_on_state(&mut random, &table, &block, &mut tally);
+    }
+    let expected = [(0, 0), (0, 1), (0, 2), (5, 0), (6, 0), (9, 0)];
+    tally.check("origin_state", &[&expected[..], &FAULTS].concat());
+}
+
+#[test]
+fn received_tag_agrees() {
+    let (mut random, mut tally) = (Random(13), Tally::default());
+    for _ in 0..ROUNDS {
+        let block = some_block(&mut random);
+        let plain = reference::received_tag(&block);
+        let library = bgp_policy::received_tag(&block);
+        assert!(
+            library == plain,
+            "block {}: library {library:?}, plain {plain:?}",
+            shown(&block)
+        );
+        tally.add(plain.0, plain.1);
+    }
+    let expected = [(0, 0), (0, 1), (0, 2), (0, 3), (6, 0)];
+    tally.check("received_tag", &[&expected[..], &FAULTS].concat());
+}
+
+// Blocks one after the other in a buffer, and candidates that point at them; one in `bad_in` of these is likely bad.
+fn offers(random: &mut Random, count: usize, bad_in: usize) -> (Vec<u8>, Vec<Offer>) {
+    let (mut buffer, mut offers) = (vec![0x40; 3], Vec::new());
+    for _ in 0..count {
+        let bad = random.one_in(bad_in);
+        let block = match bad && random.one_in(2) {
+            true => some_block(random),
+            false => block(random),
+        };
+        let mut offer = Offer {
+            start: buffer.len() as u32,
+            size: block.len() as u32,
+            state: random.below(4) as u8,
+            identifier: random.pick(&[1, 2, 0x7FFF_FFFF, 0x8000_0000]),
+            address: random.pick(&[1, 2, 3, 0xC000_0201]),
+        };
+        buffer.extend(block);
+        match random.below(6) {
+            0 if bad => offer.state = random.pick(&[4, 255]),
+            1 if bad => offer.size = random.pick(&[0, 1, 4_074, 1 << 31, u32::MAX]),
+            2 if bad => offer.start = random.pick(&[0, 1, 1 << 31, u32::MAX]),
+            3 if bad => offer.size += 1,
+            _ => {}
+        }
+        offers.push(offer);
+    }
+    (buffer, offers)
+}
+
+fn agree_on_choice(random: &mut Random, buffer: &[u8], candidates: &[u8], tally: &mut Tally) {
+    let mode = match random.below(40) {
+        0 => random.pick(&[4, 255]),
+        _ => random.below(4) as u8,
+    };
+    let client = random.pick(&[1, 2, 9]);
+    let plain = reference::choose(mode, client, buffer, candidates);
+    let library = bgp_policy::choose(mode, client, buffer, candidates);
+    assert!(
+        library == plain,
+        "mode {mode}, client {client}, buffer {}, candidates {}: library {library:?}, plain {plain:?}",
+        shown(buffer),
+        shown(candidates)
+    );
+    tally.add(plain.0, 0);
+}
+
+#[test]
+fn choosing_agrees() {
+    let (mut random, mut tally) = (Random(14), Tally::default());
+    for _ in 0..ROUNDS / 2 {
+        let count = random.below(9);
+        let bad_in = random.pick(&[8, 1_000]);
+        let (mut buffer, offers) = offers(&mut random, count, bad_in);
+        let mut candidates = table(&offers);
+        match random.below(30) {
+            0 => candidates = damaged(&mut random, candidates),
+            1 => drop(candidates.pop()),
+            2 => buffer = damaged(&mut random, buffer),
+            3 => drop(buffer.pop()),
+            _ => {}
+        }
+        agree_on_choice(&mut random, &buffer, &candidates, &mut tally);
+    }
+    for count in (62..68).flat_map(|n| [n; 50]) {
+        let (buffer, offers) = offers(&mut random, count, 1_000);
+        agree_on_choice(&mut random, &buffer, &table(&offers), &mut tally);
+    }
+    let expected = [(0, 0), (5, 0), (6, 0), (10, 0), (11, 0)];
+    tally.check("choose", &expected);
+}
+
+#[test]
+fn comparing_two_agrees() {
+    let (mut random, mut tally) = (Random(15), Tally::default());
+    for round in 0..ROUNDS {
+        let blocks = [some_block(&mut random), some_block(&mut random)];
+        let mut candidate = |block| Candidate {
+            block,
+            state: match random.below(40) {
+                0 => 4 + random.below(252) as u8,
+                _ => random.below(4) as u8,
+            },
+            identifier: random.pick(&[1, 2, 0x8000_0000]),
+            address: random.pick(&[1, 2, 0xC000_0201]),
+        };
+        // Every third pair has the same block, so that identifier, address and index decide.
+        let second = if round % 3 == 0 { 0 } else { 1 };
+        let (first, second) = (candidate(&blocks[0]), candidate(&blocks[second]));
+        let plain = reference::better(first, second);
+        let library = bgp_policy::better(first, second);
+        assert!(
+            library == plain,
+            "{first:X?}, {second:X?}: library {library:?}, plain {plain:?}"
+        );
+        tally.add(plain.0, plain.1);
+    }
+    tally.check("better", &[(0, 0), (0, 1), (10, 0), (10, 1)]);
+}
