@@ -12,25 +12,11 @@ ghost use Rattle.desk_lines.specs.Hex.{spelled};
 fn digit_of(b: u8) -> u8
     ensures { λ r. ⌜ (r ≡ digit b) × (r ≤ 16) ⌝ }
 {
-    if b < 48 {
-        return 16;
-    }
-    if b <= 57 {
-        return b - 48;
-    }
-    if b < 65 {
-        return 16;
-    }
-    if b <= 70 {
-        return b - 55;
-    }
-    if b < 97 {
-        return 16;
-    }
-    if b <= 102 {
-        return b - 87;
-    }
-    16
+    let decimal = if b < 48 { 16 } else { b - 48 };
+    let upper = if b < 65 { 16 } else { b - 55 };
+    let letter = if b < 97 { upper } else { b - 87 };
+    let value = if b < 58 { decimal } else { letter };
+    if value < 16 { value } else { 16 }
 }
 
 // Stores the bytes that a line's pairs of digits spell, up to the first pair with a bad digit, and says whether there is none.
