@@ -1,7 +1,8 @@
 /*
  * Routing policy for BGP, for C: opening of sessions under RFC 9234 roles, receipt and sending of their attribute blocks, the
  * origin state of IPv4 routes (RFC 6811), the state that a received tag tells (RFC 8097), and the choice of a route for a
- * route-server client. The functions are in libc_api.a, which `rt staticlib c_api` writes to target/staticlib.
+ * route-server client. The functions are in libbgp_policy.a, which install.sh puts beside this file under a folder; as built it is
+ * target/staticlib/libc_api.a.
  */
 #ifndef BGP_POLICY_H
 #define BGP_POLICY_H
