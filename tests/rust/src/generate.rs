@@ -1,4 +1,4 @@
-//! Seeded inputs for comparisons: readable blocks, blocks with a fault, OPEN parameters, VRP tables, and damage to any bytes.
+//! Seeded inputs: readable blocks, blocks with a fault, and damage to any bytes.
 
 /// The splitmix64 generator: equal seeds give equal inputs.
 pub struct Random(pub u64);

@@ -6,6 +6,8 @@ pub mod reference;
 pub mod stream;
 pub mod tables;
 
+use std::path::{Path, PathBuf};
+
 /// The other role of a pair; a value that is no role stays.
 pub fn counterpart(role: u8) -> u8 {
     match role {
@@ -53,4 +55,19 @@ pub fn expected_buffer(before: &[u8], stored: Option<&[u8]>) -> Vec<u8> {
         after[..bytes.len()].copy_from_slice(bytes);
     }
     after
+}
+
+/// The desk program: what DESK names, else target/bin/desk at the repository's top.
+pub fn desk_program() -> Result<PathBuf, String> {
+    let path = match std::env::var_os("DESK") {
+        Some(path) => PathBuf::from(path),
+        None => Path::new(env!("CARGO_MANIFEST_DIR")).join("../../target/bin/desk"),
+    };
+    if path.is_file() {
+        return Ok(path);
+    }
+    let path = path.display();
+    Err(format!(
+        "the desk program {path} is missing: desk.sh builds it, or DESK names another"
+    ))
 }

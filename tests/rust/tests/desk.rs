@@ -1,30 +1,16 @@
 //! The desk program and the plain desk print the same for seeded line streams, and the plain desk the same in any pieces.
 use policy_tests::generate::Random;
-use policy_tests::reference;
 use policy_tests::stream::{stream, vrps};
+use policy_tests::{desk_program, reference};
 use std::collections::BTreeMap;
 use std::io::Write;
-use std::path::{Path, PathBuf};
+use std::path::Path;
 use std::process::{Command, Stdio};
 
 const STREAM: usize = 400_000;
 
-// The program: DESK if it is set, else target/bin/desk at the repository's top.
-fn program() -> PathBuf {
-    let path = match std::env::var_os("DESK") {
-        Some(path) => PathBuf::from(path),
-        None => Path::new(env!("CARGO_MANIFEST_DIR")).join("../../target/bin/desk"),
-    };
-    assert!(
-        path.is_file(),
-        "the desk program {} is missing",
-        path.display()
-    );
-    path
-}
-
 fn run(input: &[u8]) -> Vec<u8> {
-    let mut desk = Command::new(program())
+    let mut desk = Command::new(desk_program().expect("the program"))
         .stdin(Stdio::piped())
         .stdout(Stdio::piped())
         .spawn()

@@ -10,8 +10,9 @@ mod inputs;
 mod rows;
 
 use bgp_policy::{Candidate, Session, OWN_ROUTE};
-use inputs::Random;
-use policy_tests::reference;
+use inputs::seeded;
+use policy_tests::generate::Random;
+use policy_tests::{desk_program, reference};
 use rows::{print, Table};
 use std::hint::black_box;
 use std::process::ExitCode;
@@ -124,7 +125,7 @@ fn choosing(table: &mut Table, random: &mut Random) -> Result<(), String> {
         both!(table, &named, |_out| choose(3, 7, &buffer, &candidates))?;
     }
     for size in [13, 256] {
-        let blocks = [(); 2].map(|()| inputs::sized(&mut Random::new(), size));
+        let blocks = [(); 2].map(|()| inputs::sized(&mut seeded(), size));
         let [first, second] = [0, 1].map(|i| Candidate {
             block: &blocks[i],
             state: 0,
@@ -149,7 +150,7 @@ fn desks(effort: Effort) -> Result<(), String> {
 }
 
 fn bench(effort: Effort) -> Result<(), String> {
-    desk::program()?;
+    desk_program()?;
     println!(
         "Best of {} rounds (desk: {}); ratio: the library's time over Rust's; output buffers are not cleared between calls.",
         effort.passes * effort.rounds,
@@ -162,7 +163,7 @@ fn bench(effort: Effort) -> Result<(), String> {
     let mut table = Table::new(effort);
     for _ in 0..effort.passes {
         // the same inputs in each pass
-        let random = &mut Random::new();
+        let random = &mut seeded();
         blocks(&mut table, random)?;
         sessions_and_tables(&mut table, random)?;
         choosing(&mut table, random)?;

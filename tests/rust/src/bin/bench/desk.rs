@@ -1,10 +1,11 @@
 //! The desk program beside the Rust desk: two programs that read the same file and write the same bytes.
 use crate::inputs;
+use policy_tests::desk_program;
 use policy_tests::reference::Desk;
 use std::fs::{remove_file, File};
 use std::io::{self, Read, Write};
 use std::os::fd::AsFd;
-use std::path::{Path, PathBuf};
+use std::path::PathBuf;
 use std::process::{Child, Command, Stdio};
 use std::time::{Duration, Instant};
 
@@ -31,21 +32,6 @@ pub fn serve() -> io::Result<()> {
     output.write_all(&out)
 }
 
-/// The desk program: what DESK names, else target/bin/desk at the repository's top.
-pub fn program() -> Result<PathBuf, String> {
-    let path = match std::env::var_os("DESK") {
-        Some(path) => PathBuf::from(path),
-        None => Path::new(env!("CARGO_MANIFEST_DIR")).join("../../target/bin/desk"),
-    };
-    if !path.is_file() {
-        let path = path.display();
-        return Err(format!(
-            "the desk program {path} is missing: desk.sh builds it, or DESK names another"
-        ));
-    }
-    Ok(path)
-}
-
 // A file of lines, gone at the end.
 struct Stream {
     path: PathBuf,
@@ -61,7 +47,7 @@ impl Drop for Stream {
 impl Stream {
     // A stream of at least this many bytes.
     fn new(bytes: usize) -> io::Result<Self> {
-        let (head, rest) = inputs::lines(&mut inputs::Random::new());
+        let (head, rest) = inputs::lines(&mut inputs::seeded());
         let name = format!("bench-{}.in", std::process::id());
         let mut stream = Stream {
             path: std::env::temp_dir().join(name),
@@ -142,7 +128,7 @@ fn line_at(output: &[u8], place: usize) -> String {
 
 /// The stream's bytes, and the best time of each desk over it.
 pub fn measured(bytes: usize, rounds: u32) -> Result<(usize, [Duration; 2]), String> {
-    let library = Command::new(program()?);
+    let library = Command::new(desk_program()?);
     run(library, bytes, rounds).map_err(|e| format!("desk: {e}"))
 }
 

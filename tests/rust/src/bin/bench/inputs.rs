@@ -1,6 +1,7 @@
 //! The benchmark's inputs, the same in every run: blocks, VRPs, candidates, and the desk's lines.
 use bgp_policy::{table, Offer, OWN_ROUTE};
 use policy_tests::counterpart;
+use policy_tests::generate::Random;
 
 /// The address of a route that none of the VRPs covers, which all begin with a 0 bit.
 pub const UNCOVERED: u32 = 0xC000_0200;
@@ -12,45 +13,26 @@ pub fn parameters(role: u8) -> Vec<u8> {
     bytes
 }
 
-/// Numbers without an order to be learned, from a fixed seed (xorshift).
-pub struct Random(u64);
+/// The same numbers in every run.
+pub fn seeded() -> Random {
+    Random(1)
+}
 
-impl Random {
-    pub fn new() -> Self {
-        Random(0x9E37_79B9_7F4A_7C15)
-    }
-
-    fn next(&mut self) -> u32 {
-        self.0 ^= self.0 << 13;
-        self.0 ^= self.0 >> 7;
-        self.0 ^= self.0 << 17;
-        (self.0 >> 32) as u32
-    }
-
-    fn below(&mut self, bound: u32) -> u32 {
-        self.next() % bound
-    }
-
-    fn byte_below(&mut self, bound: u8) -> u8 {
-        self.below(bound.into()) as u8
-    }
-
-    // One of few, so that some VRPs match.
-    fn asn(&mut self) -> [u8; 4] {
-        (64512 + self.below(16)).to_be_bytes()
-    }
+// One of few, so that some VRPs match.
+fn asn(random: &mut Random) -> [u8; 4] {
+    (64512 + random.below(16) as u32).to_be_bytes()
 }
 
 // ORIGIN, a path of up to 63 ASes, up to 31 communities of which every fourth is a tag, and an attribute of type 32 with a value
 // of `large` bytes; for no communities or bytes no attribute.
 fn block(random: &mut Random, path: u8, communities: u8, large: u16) -> Vec<u8> {
-    let mut block = vec![0x40, 1, 1, random.byte_below(3)];
+    let mut block = vec![0x40, 1, 1, random.below(3) as u8];
     match path {
         0 => block.extend([0x40, 2, 0]),
         _ => block.extend([0x40, 2, 2 + 4 * path, 2, path]),
     }
     for _ in 0..path {
-        block.extend(random.asn());
+        block.extend(asn(random));
     }
     if communities > 0 {
         block.extend([0xC0, 16, 8 * communities]);
@@ -63,7 +45,7 @@ fn block(random: &mut Random, path: u8, communities: u8, large: u16) -> Vec<u8> 
     if large > 0 {
         block.extend([0xD0, 32]);
         block.extend(large.to_be_bytes());
-        block.extend((0..large).map(|_| random.next() as u8));
+        block.extend((0..large).map(|_| random.byte()));
     }
     block
 }
@@ -83,10 +65,13 @@ pub fn sized(random: &mut Random, size: usize) -> Vec<u8> {
 pub fn vrps(random: &mut Random, count: usize) -> Vec<u8> {
     let mut bytes = Vec::new();
     for _ in 0..count {
-        let length = 8 + random.byte_below(17);
-        bytes.extend((random.next() >> 1).to_be_bytes());
-        bytes.extend([length, length + random.byte_below(33 - length)]);
-        bytes.extend(random.asn());
+        let length = 8 + random.below(17) as u8;
+        bytes.extend((random.draw() as u32 >> 1).to_be_bytes());
+        bytes.extend([
+            length,
+            length + random.below(33 - usize::from(length)) as u8,
+        ]);
+        bytes.extend(asn(random));
     }
     bytes
 }
@@ -99,8 +84,8 @@ pub fn candidates(random: &mut Random, size: usize) -> (Vec<u8>, Vec<u8>) {
             start: buffer.len() as u32,
             size: size as u32,
             state: (i % 4) as u8,
-            identifier: random.below(8),
-            address: 1000 + random.below(64),
+            identifier: random.below(8) as u32,
+            address: 1000 + random.below(64) as u32,
         });
         buffer.extend(sized(random, size));
     }
@@ -119,7 +104,7 @@ pub fn lines(random: &mut Random) -> (Vec<u8>, Vec<u8>) {
         session(&mut rest, random);
         for _ in 0..32 {
             match random.below(32) {
-                0 => rest.extend(REFUSED[random.below(8) as usize].as_bytes()),
+                0 => rest.extend(random.pick(&REFUSED).as_bytes()),
                 1..=16 => receipt(&mut rest, random, &table),
                 _ => sending(&mut rest, random),
             }
@@ -151,20 +136,20 @@ fn line(lines: &mut Vec<u8>, parts: &[&[u8]]) {
 
 // A session of AS 64500 with AS 64510; one in 32 is rejected.
 fn session(lines: &mut Vec<u8>, random: &mut Random) {
-    let local = random.byte_below(5);
-    let rejected = random.below(32) == 0;
+    let local = random.below(5) as u8;
+    let rejected = random.one_in(32);
     let remote = if rejected { 7 } else { counterpart(local) };
-    let mode = random.byte_below(4);
+    let mode = random.below(4) as u8;
     let settings = [1, 0, 0, 0xFB, 0xF4, 0, 0, 0xFB, 0xFE, local, 1, mode];
     line(lines, &[&settings, &parameters(remote)]);
 }
 
 // A block of a usual size, one in 128 a large one; one in 16 with an OTC of the neighbour's.
 fn usual(random: &mut Random) -> Vec<u8> {
-    let (path, communities) = (random.byte_below(7), random.byte_below(9));
-    let large = if random.below(128) == 0 { 3500 } else { 0 };
+    let (path, communities) = (random.below(7) as u8, random.below(9) as u8);
+    let large = if random.one_in(128) { 3500 } else { 0 };
     let mut made = block(random, path, communities, large);
-    if random.below(16) == 0 {
+    if random.one_in(16) {
         made.extend([0xC0, 35, 4, 0, 0, 0xFB, 0xFE]);
     }
     made
@@ -172,9 +157,9 @@ fn usual(random: &mut Random) -> Vec<u8> {
 
 // A receipt, of a prefix that a VRP covers or of one that none does.
 fn receipt(lines: &mut Vec<u8>, random: &mut Random, table: &[u8]) {
-    let vrp = &table[10 * random.below(100) as usize..];
+    let vrp = &table[10 * random.below(100)..];
     let made = usual(random);
-    if random.below(2) == 0 {
+    if random.one_in(2) {
         line(lines, &[&[2, vrp[4]], &vrp[..4], &made]);
     } else {
         line(lines, &[&[2, 24], &UNCOVERED.to_be_bytes(), &made]);
@@ -183,7 +168,7 @@ fn receipt(lines: &mut Vec<u8>, random: &mut Random, table: &[u8]) {
 
 // A sending, mostly of an own route or of a customer's, which go to any neighbour.
 fn sending(lines: &mut Vec<u8>, random: &mut Random) {
-    let source = [OWN_ROUTE, OWN_ROUTE, 3, 3, 3, 0, 1, 4][random.below(8) as usize];
-    let state = random.byte_below(4);
+    let source = random.pick(&[OWN_ROUTE, OWN_ROUTE, 3, 3, 3, 0, 1, 4]);
+    let state = random.below(4) as u8;
     line(lines, &[&[3, source, state], &usual(random)]);
 }
