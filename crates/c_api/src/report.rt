@@ -1,4 +1,5 @@
 // Answers as numbers: the answer number as the result, and through `beside` the number beside it.
+use octets::answers::refusal_number;
 use rules::Chosen;
 use rules::Opened;
 use rules::Refusal;
@@ -9,40 +10,26 @@ ghost use Rattle.rules.specs.Answers.{refused, number, answerNumber, besideNumb
 ghost use Rattle.rules.specs.Choice.{toldChosen};
 ghost use Rattle.c_api.specs.Numbers.{indexTold, leftTold};
 
+// The number beside a refusal; 0 where it has none.
+fn beside_number(refusal: Refusal) -> usize
+    ensures { λ r. ⌜ r ≡ besideNumber (refused refusal) ⌝ }
+{
+    match refusal {
+        Refusal::Ineligible(rule) => rule as usize,
+        Refusal::Withheld(rule) => rule as usize,
+        Refusal::Malformed(fault) => fault as usize,
+        Refusal::BadVrp(index) => index,
+        Refusal::BadCandidate(index) => index,
+        _ => 0,
+    }
+}
+
 // A refusal as numbers: its number as the result, and through `beside` the number beside it, 0 where it has none.
 pub fn report_refusal(refusal: Refusal, beside: &mut usize) -> u8
     ensures { λ r. ⌜ (r ≡ number refusal) × (now (beside .exit) ≡ besideNumber (refused refusal)) ⌝ }
 {
-    *beside = 0;
-    match refusal {
-        Refusal::Ineligible(rule) => {
-            *beside = rule as usize;
-            1
-        }
-        Refusal::Withheld(rule) => {
-            *beside = rule as usize;
-            2
-        }
-        Refusal::Malformed(fault) => {
-            *beside = fault as usize;
-            3
-        }
-        Refusal::Rejected => 4,
-        Refusal::BadSetting => 5,
-        Refusal::BadLength => 6,
-        Refusal::NoRoom => 7,
-        Refusal::BadOpen => 8,
-        Refusal::BadVrp(index) => {
-            *beside = index;
-            9
-        }
-        Refusal::BadCandidate(index) => {
-            *beside = index;
-            10
-        }
-        Refusal::NoRoute => 11,
-        Refusal::Unreadable => 12,
-    }
+    *beside = beside_number(refusal);
+    refusal_number(refusal)
 }
 
 // An answer of opening as numbers: its number as the result, and through `beside` the number beside it, the remote role on answer 0.

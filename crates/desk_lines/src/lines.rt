@@ -5,6 +5,7 @@ use super::frames::keep_frame;
 use super::hex::decode;
 use super::hex::put_decimal;
 use super::hex::put_hex;
+use octets::answers::refusal_number;
 use octets::buffer::put;
 use octets::buffer::put_byte;
 use rules::Refusal;
@@ -14,31 +15,11 @@ ghost use mathlib.Core.Bool.{true};
 ghost use mathlib.Core.List.{_∷_, _++_};
 ghost use Prim.Native.Nat.{_+_, _/_, _≤_, _<_, _^_};
 ghost use lib.ListN.{length, take};
-ghost use Rattle.rules.specs.Answers.{done, number, answerNumber};
+ghost use Rattle.rules.specs.Answers.{done, answerNumber};
 ghost use Rattle.rules.specs.Desk.{space, decimal, shownResult, outputLine, readableLine, fromHex};
 ghost use Rattle.octets.specs.Buffer.{Stored};
 ghost use Rattle.desk_lines.specs.Keeping.{Keeps, replied, Within, isDone};
 ghost use Rattle.desk_lines.specs.Machine.{Answered};
-
-// The column "No." of a refusal (01, "Answer numbers").
-fn refusal_number(refusal: Refusal) -> u64
-    ensures { λ r. ⌜ r ≡ number refusal ⌝ }
-{
-    match refusal {
-        Refusal::Ineligible(rule) => 1,
-        Refusal::Withheld(rule) => 2,
-        Refusal::Malformed(fault) => 3,
-        Refusal::Rejected => 4,
-        Refusal::BadSetting => 5,
-        Refusal::BadLength => 6,
-        Refusal::NoRoom => 7,
-        Refusal::BadOpen => 8,
-        Refusal::BadVrp(index) => 9,
-        Refusal::BadCandidate(index) => 10,
-        Refusal::NoRoute => 11,
-        Refusal::Unreadable => 12,
-    }
-}
 
 // Stores a result of answer 0, in hex, or a dash where there is no byte to show. Internal.
 fn put_result(result: &[u8], out: &mut [u8], at: usize) -> usize
@@ -58,7 +39,7 @@ fn put_reply(reply: Written, made: &[u8], out: &mut [u8], at: usize) -> usize
 {
     match reply {
         Written::Refused(refusal) => {
-            let w = put_decimal(refusal_number(refusal), out, at);
+            let w = put_decimal(refusal_number(refusal) as u64, out, at);
             let dash = [32u8, 45];
             put(&dash, out, w)
         }

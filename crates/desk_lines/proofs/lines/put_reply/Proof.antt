@@ -19,6 +19,9 @@ enum-known-reply c = search needs
 refusal-number-requires : tie.Need-refusal-number-requires
 refusal-number-requires c κs = search needs
 
+cast-put-decimal : tie.Need-cast-put-decimal
+cast-put-decimal c = search needs
+
 put-decimal-requires : tie.Need-put-decimal-requires
 put-decimal-requires c κs = search needs
 
@@ -87,6 +90,7 @@ put-reply-spec =
     (tie.spec
     enum-known-reply
     refusal-number-requires
+    cast-put-decimal
     put-decimal-requires
     slice-aggregate-put
     put-requires
