@@ -35,15 +35,16 @@ pub fn left_size(v: &[u8]) -> usize
     n
 }
 
-// Stores what is left of a community. Internal.
+// Stores what is left of a community: its eight bytes are read before any is stored, so that they go in one move. Internal.
 fn put_kept(c: &[u8], out: &mut [u8], at: usize) -> usize
-    requires { ⌜ (2 ≤ length (now c)) × (at + length (kept (now c)) ≤ length (now out)) ⌝ }
+    requires { ⌜ (length (now c) ≡ 8) × (at + length (kept (now c)) ≤ length (now out)) ⌝ }
     ensures { λ r. ⌜ Stored (now (out .entry)) at (kept (now (c .entry))) r (now (out .exit)) ⌝ }
 {
     if is_tag(c) {
         return at;
     }
-    put(c, out, at)
+    let bytes = [c[0], c[1], c[2], c[3], c[4], c[5], c[6], c[7]];
+    put(&bytes, out, at)
 }
 
 // Stores the communities that are left. Internal.
