@@ -18,10 +18,8 @@ use Rattle.rules.proofs.Blocks.{All, Framed, all-map, size-front, attribute-enc
 use Rattle.rules.proofs.Readable.{Fine, read-good}
 use Rattle.rules.proofs.Parts.{size, size-cons}
 use Rattle.octets.proofs.Slices.{item-value}
-use Rattle.attributes.specs.Layout.{place, placeOf, layout, reading, Read, SizeAt, firstValue, valueAt}
-use Rattle.attributes.specs.declared.Layout.{Layout}
+use Rattle.attributes.specs.Layout.{place, placeOf, layout, Read, SizeAt, firstValue, valueAt}
 use Rattle.attributes.specs.declared.Reading.{Reading}
-use Rattle.attributes.specs.declared.Reading.the-variants.{Clean, Fault}
 use Rattle.attributes.proofs.Positions.{fit-here, fit-room}
 use Rattle.attributes.proofs.Sizes.{size-least, item-header}
 
@@ -144,18 +142,10 @@ otc-as-of b r = go (valueOf 35 (attributes b)) (otc-four (attributes b) (read-go
 
 -- What reading says, taken apart: a fault that is the block's, or the layout of a readable block.
 module _ {b : List ℕ} {r : Reading} (p : Read b r) where
-  pub fault-read : {f : ℕ} → r ≡ Fault f → (readable b ≡ false) × (fault b ≡ f)
-  unfolding reading readable
-  fault-read {f} q = go (eqb (fault b) 0) (sym q ∙ p .is)
-    where
-      go : (x : Bool) → Fault f ≡ cond x (Clean (layout (attributes b))) (Fault (fault b)) → (x ≡ false) × (fault b ≡ f)
-      go true z = let n : _≡_ {A = ℕ} 0 1 = cc in absurd (omega arith)
-      go false z = (refl, cc)
+  pub fault-read : (r .fault ≡ 0 → ⊥) → (readable b ≡ false) × (fault b ≡ r .fault)
+  unfolding readable
+  fault-read h = (ne-eqb (fault b) 0 (λ z. h (p .is ∙ z)), sym (p .is))
 
-  pub clean-read : {l : Layout} → r ≡ Clean l → (readable b ≡ true) × (l ≡ layout (attributes b))
-  unfolding reading readable
-  clean-read {l} q = go (eqb (fault b) 0) (sym q ∙ p .is)
-    where
-      go : (x : Bool) → Clean l ≡ cond x (Clean (layout (attributes b))) (Fault (fault b)) → (x ≡ true) × (l ≡ layout (attributes b))
-      go true z = (refl, cc)
-      go false z = let n : _≡_ {A = ℕ} 0 1 = cc in absurd (omega arith)
+  pub clean-read : r .fault ≡ 0 → (readable b ≡ true) × (r .layout ≡ layout (attributes b))
+  unfolding readable
+  clean-read e = let f : fault b ≡ 0 = sym (p .is) ∙ e in (rw f refl, p .places ∙ rw f refl)

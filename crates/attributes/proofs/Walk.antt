@@ -14,15 +14,14 @@ use Rattle.rules.specs.Attributes.{Attribute, attribute, attributes, attributeS
 use Rattle.rules.proofs.Lists.{bit, is-empty-not}
 use Rattle.rules.proofs.Parts.{size}
 use Rattle.rules.proofs.Blocks.{encode-attribute}
-use Rattle.attributes.specs.Layout.{place, placeOf, placeAbove, layout, reading, Inside, Read}
-use Rattle.attributes.specs.Steps.{noted}
+use Rattle.attributes.specs.Layout.{layout, Read}
+use Rattle.attributes.specs.Steps.{atEnd, noted}
 use Rattle.attributes.specs.declared.Layout.{Layout}
-use Rattle.attributes.specs.declared.Reading.the-variants.{Clean, Fault}
+use Rattle.attributes.specs.declared.Reading.{Reading}
 use Rattle.octets.proofs.Slices.{part-is}
 use Rattle.attributes.proofs.Sizes.{item-length, item-least}
-use Rattle.attributes.proofs.ValueFaults.{fault-range}
 use Rattle.attributes.proofs.Faults.{faultFrom, fault-from-start, fault-end, fault-torn, fault-repeated, fault-own, fault-again, attributes-step}
-use Rattle.attributes.proofs.Places.{place-le, size-more, noted-more}
+use Rattle.attributes.proofs.Places.{size-more, laid, laid-none, laid-all, laid-more}
 
 -- At `at` of the block b, after the attributes `before`, of the types `types`, which the table has marked.
 pub record Walk (b table : List ℕ) (l : Layout) (at : ℕ) : Type 0 where
@@ -32,16 +31,13 @@ pub record Walk (b table : List ℕ) (l : Layout) (at : ℕ) : Type 0 where
   pub long : length table ≡ 256
   pub marks : (k : ℕ) → k < 256 → getD table k 0 ≡ bit (oneOf types k)
   pub reached : at ≡ size before
-  pub places : l ≡ layout before
+  pub places : l ≡ laid (length b) before
   pub rest : attributes b ≡ before ++ attributes (drop at b)
   pub same : faultFrom types (drop at b) ≡ fault b
 
-abbrev pub start : Layout
-start = record { origin = 0; «as_path» = 0; communities = 0; otc = 0; «new_tag» = 0; «new_otc» = 0 }
-
-pub walk-start : (b : List ℕ) → Walk b (replicate 256 0) start 0
-unfolding oneOf exists layout placeOf placeAbove place encode flatMap
-walk-start b =
+pub walk-start : (b : List ℕ) {l : Layout} → l ≡ atEnd (length b) → Walk b (replicate 256 0) l 0
+unfolding oneOf exists encode flatMap
+walk-start b e =
     record {
       within = omega arith;
       before = [];
@@ -49,17 +45,16 @@ walk-start b =
       long = length-replicate {A = ℕ} 256 0;
       marks = λ k h. getD-replicate {A = ℕ} 256 k 0 0 h;
       reached = refl;
-      places = refl;
+      places = e ∙ laid-none (length b);
       rest = refl;
       same = fault-from-start b;
     }
 
 -- ---- Answers
 
-pub read-fault : (b : List ℕ) {f : ℕ} → fault b ≡ f → 1 ≤ f → f ≤ 6 → Read b (Fault f)
-unfolding reading
-read-fault b {f} e h k =
-    record { is = rw (e, ne-eqb f 0 (λ z. omega arith)) refl; within = (h, k) }
+-- A fault, with no place.
+pub read-fault : (b : List ℕ) {r : Reading} {f : ℕ} → (r .fault ≡ f) × (r .layout ≡ atEnd (length b)) → fault b ≡ f → (f ≡ 0 → ⊥) → Read b r
+read-fault b {r} {f} p e h = record { is = p .0 ∙ sym e; places = p .1 ∙ rw (e, ne-eqb f 0 h) refl }
 
 bit-off : (x : Bool) {n : ℕ} → n ≡ bit x → n ≡ 0 → x ≡ false
 bit-off true e z = absurd (omega arith)
@@ -74,9 +69,9 @@ abbrev item : List ℕ → ℕ → ℕ → List ℕ
 item b at n = take (at + n - at) (drop at b)
 
 module _ {b table : List ℕ} {l : Layout} {at : ℕ} (w : Walk b table l at) where
-  pub walk-torn : at < length b → 0 ≡ fit attributeSize (drop at b) → Read b (Fault 1)
-  walk-torn h e =
-      read-fault b (sym (w .same) ∙ fault-torn (w .types) (drop at b) (is-empty-not (drop at b) (omega (arith, length-drop at b))) (sym e)) (omega arith) (omega arith)
+  pub walk-torn : at < length b → 0 ≡ fit attributeSize (drop at b) → {r : Reading} → (r .fault ≡ 1) × (r .layout ≡ atEnd (length b)) → Read b r
+  walk-torn h e a =
+      read-fault b a (sym (w .same) ∙ fault-torn (w .types) (drop at b) (is-empty-not (drop at b) (omega (arith, length-drop at b))) (sym e)) (λ z. omega arith)
 
   -- A turn: an attribute of n bytes at the place, of type k.
   module _ {n : ℕ} (e : n ≡ fit attributeSize (drop at b)) (h : n ≡ 0 → ⊥) {k : ℕ} (q : k ≡ getD (item b at n) 1 0) (byte : k < 256) where
@@ -87,10 +82,10 @@ module _ {b table : List ℕ} {l : Layout} {at : ℕ} (w : Walk b table l at) wh
     seen-is : (x : Bool) → oneOf (w .types) k ≡ x → oneOf (w .types) (attribute (take n (drop at b)) .type) ≡ x
     seen-is x z = ap (oneOf (w .types)) type-is ∙ z
 
-    pub walk-repeated : (getD table k 0 ≡ 0 → ⊥) → Read b (Fault 2)
-    walk-repeated z =
-        read-fault b (sym (w .same) ∙ fault-repeated (w .types) (drop at b) e (omega arith) (seen-is true (bit-on (oneOf (w .types) k) (w .marks k byte) z)))
-        (omega arith) (omega arith)
+    pub walk-repeated : (getD table k 0 ≡ 0 → ⊥) → {r : Reading} → (r .fault ≡ 2) × (r .layout ≡ atEnd (length b)) → Read b r
+    walk-repeated z a =
+        read-fault b a (sym (w .same) ∙ fault-repeated (w .types) (drop at b) e (omega arith) (seen-is true (bit-on (oneOf (w .types) k) (w .marks k byte) z)))
+        (λ z. omega arith)
 
     module _ (z : getD table k 0 ≡ 0) {f : ℕ} (p : f ≡ valueFault (attribute (item b at n) .type) (attribute (item b at n) .value)) where
       new : oneOf (w .types) (attribute (take n (drop at b)) .type) ≡ false
@@ -99,14 +94,12 @@ module _ {b table : List ℕ} {l : Layout} {at : ℕ} (w : Walk b table l at) wh
       own : f ≡ valueFault (attribute (take n (drop at b)) .type) (attribute (take n (drop at b)) .value)
       own = rw (part-is b at n) at p
 
-      pub walk-own : (f ≡ 0 → ⊥) → Read b (Fault f)
-      walk-own y =
-          read-fault b (sym (w .same) ∙ fault-own (w .types) (drop at b) e (omega arith) new own y)
-          (omega arith) (omega (arith, own, fault-range (attribute (take n (drop at b)) .value) (attribute (take n (drop at b)) .type)))
+      pub walk-own : (f ≡ 0 → ⊥) → {r : Reading} → (r .fault ≡ f) × (r .layout ≡ atEnd (length b)) → Read b r
+      walk-own y a = read-fault b a (sym (w .same) ∙ fault-own (w .types) (drop at b) e (omega arith) new own y) y
 
       -- No fault: the attribute is noted, and the walk goes on past it.
-      pub walk-on : f ≡ 0 → at + n ≤ length b → {m : Layout} → m ≡ noted l k at (at + n) → Walk b (set table k 1) m (at + n)
-      walk-on y room {m} v =
+      pub walk-on : f ≡ 0 → at + n ≤ length b → {next : Layout} → next ≡ noted l (attribute (item b at n) .type) at → Walk b (set table k 1) next (at + n)
+      walk-on y room v =
           record {
             within = room;
             before = w .before ++ (a ∷ []);
@@ -114,7 +107,7 @@ module _ {b table : List ℕ} {l : Layout} {at : ℕ} (w : Walk b table l at) wh
             long = length-set table k 1 ∙ w .long;
             marks = marked;
             reached = omega (arith, w .reached, size-more (w .before) a, bytes);
-            places = v ∙ noted-more (w .before) a (sym bytes) (w .places) (sym type-is) (w .reached);
+            places = v ∙ laid-more (length b) (w .before) a (w .places) (ap (λ (s : List ℕ). attribute s .type) (part-is b at n)) (w .reached) (omega (arith, item-least (drop at b) e h));
             rest =
                 w .rest ∙ ap (λ (r : List Attribute). w .before ++ r) (attributes-step (drop at b) e (omega arith) .0)
                 ∙ rw (drop-drop n at b) (sym (append-assoc (w .before) (a ∷ []) (attributes (drop (at + n) b))));
@@ -145,20 +138,20 @@ module _ {b table : List ℕ} {l : Layout} {at : ℕ} (w : Walk b table l at) (e
   ended : firstNonZero (cond (oneOf (w .types) 1) 0 3 ∷ cond (oneOf (w .types) 2) 0 4 ∷ []) ≡ fault b
   ended = sym (fault-end (w .types) (drop at b) (at-end b end)) ∙ w .same
 
-  pub walk-no-origin : getD table 1 0 ≡ 0 → Read b (Fault 3)
-  walk-no-origin z =
-      read-fault b (sym ended ∙ (unfold firstNonZero in rw (bit-off (oneOf (w .types) 1) (w .marks 1 (omega arith)) z) refl)) (omega arith) (omega arith)
+  pub walk-no-origin : getD table 1 0 ≡ 0 → {r : Reading} → (r .fault ≡ 3) × (r .layout ≡ atEnd (length b)) → Read b r
+  walk-no-origin z a =
+      read-fault b a (sym ended ∙ (unfold firstNonZero in rw (bit-off (oneOf (w .types) 1) (w .marks 1 (omega arith)) z) refl)) (λ z. omega arith)
 
   module _ (y : getD table 1 0 ≡ 0 → ⊥) where
-    pub walk-no-path : getD table 2 0 ≡ 0 → Read b (Fault 4)
-    walk-no-path z =
-        read-fault b
+    pub walk-no-path : getD table 2 0 ≡ 0 → {r : Reading} → (r .fault ≡ 4) × (r .layout ≡ atEnd (length b)) → Read b r
+    walk-no-path z a =
+        read-fault b a
         (sym ended ∙ (unfold firstNonZero in rw (bit-on (oneOf (w .types) 1) (w .marks 1 (omega arith)) y, bit-off (oneOf (w .types) 2) (w .marks 2 (omega arith)) z) refl))
-        (omega arith) (omega arith)
+        (λ z. omega arith)
 
     -- All of it is read: the places are those of its attributes.
-    pub walk-clean : (getD table 2 0 ≡ 0 → ⊥) → Read b (Clean l)
-    walk-clean z = record { is = found; within = inside }
+    pub walk-clean : (getD table 2 0 ≡ 0 → ⊥) → Read b (record { fault = 0; layout = l })
+    walk-clean z = record { is = sym clean; places = found }
       where
         clean : fault b ≡ 0
         clean = sym ended ∙ (unfold firstNonZero in rw (bit-on (oneOf (w .types) 1) (w .marks 1 (omega arith)) y, bit-on (oneOf (w .types) 2) (w .marks 2 (omega arith)) z) refl)
@@ -166,13 +159,5 @@ module _ {b table : List ℕ} {l : Layout} {at : ℕ} (w : Walk b table l at) (e
         all : attributes b ≡ w .before
         all = w .rest ∙ rw (at-end b end) ((unfold attributes chop chopUpTo in append-nil (w .before)))
 
-        found : Clean l ≡ reading b
-        found = unfold reading in rw (clean, all, w .places) refl
-
-        bound : (p : ℕ → Bool) → place p (w .before) ≤ length b
-        bound p = omega (arith, place-le p (w .before), w .reached, w .within)
-
-        inside : Inside (length b) l
-        inside =
-            rw (w .places) (unfold layout placeOf placeAbove in
-            record { origin = bound _; asPath = bound _; communities = bound _; otc = bound _; newTag = bound _; newOtc = bound _ })
+        found : l ≡ cond (eqb (fault b) 0) (layout (attributes b)) (atEnd (length b))
+        found = rw (clean, all) (w .places ∙ laid-all (length b) (w .before) (omega (arith, w .reached, w .within)))

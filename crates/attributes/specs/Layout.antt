@@ -9,7 +9,7 @@ use Rattle.rules.specs.Rows.{fit}
 use Rattle.rules.specs.Attributes.{Attribute, attribute, attributes, attributeSize, encodeOne, fault, originType, asPathType, communitiesType, otcType}
 use Rattle.attributes.specs.declared.Layout.{Layout}
 use Rattle.attributes.specs.declared.Reading.{Reading}
-use Rattle.attributes.specs.declared.Reading.the-variants.{Clean, Fault}
+use Rattle.attributes.specs.Steps.{atEnd}
 
 -- The place of the first attribute whose type passes a test: the length of the encoding of what stands before it, which is all
 -- where there is none.
@@ -36,27 +36,10 @@ layout l =
       «new_otc» = placeAbove otcType l;
     }
 
--- What reading a block answers: its layout, or its fault.
-unfoldable pub reading : List ℕ → Reading
-reading b = cond (eqb (fault b) 0) (Clean (layout (attributes b))) (Fault (fault b))
-
--- The places lie within a block of n bytes.
-pub record Inside (n : ℕ) (l : Layout) : Type 0 where
-  pub origin : l .origin ≤ n
-  pub asPath : l .«as_path» ≤ n
-  pub communities : l .communities ≤ n
-  pub otc : l .otc ≤ n
-  pub newTag : l .«new_tag» ≤ n
-  pub newOtc : l .«new_otc» ≤ n
-
-abbrev pub Within : ℕ → Reading → Type 0
-Within n (Clean l) = Inside n l
-Within n (Fault f) = (1 ≤ f) × (f ≤ 6)
-
--- What reading promises: the answer, and bounds that callers need.
+-- What reading promises: the block's fault, 0 for none, and its layout, every place at its end where it has a fault.
 pub record Read (b : List ℕ) (r : Reading) : Type 0 where
-  pub is : r ≡ reading b
-  pub within : Within (length b) r
+  pub is : r .fault ≡ fault b
+  pub places : r .layout ≡ cond (eqb (fault b) 0) (layout (attributes b)) (atEnd (length b))
 
 -- The size of the attribute at a place, 0 where none fits there, and that it ends within the block.
 pub record SizeAt (b : List ℕ) (at n : ℕ) : Type 0 where

@@ -8,8 +8,8 @@ use octets::fit_size;
 use octets::number2;
 use octets::number4;
 use octets::wide;
-use values::attribute_fault;
 use values::header_size;
+use values::note;
 ghost use mathlib.Core.Path.{_≡_};
 ghost use mathlib.Core.Bool.{cond};
 ghost use Prim.Native.Nat.{_+_, _≤_};
@@ -19,7 +19,7 @@ ghost use Rattle.rules.specs.Bytes.{bigEndian};
 ghost use Rattle.rules.specs.Rows.{fit};
 ghost use Rattle.rules.specs.Attributes.{attributeSize};
 ghost use Rattle.attributes.specs.Layout.{Read, SizeAt, valueAt};
-ghost use Rattle.attributes.specs.Steps.{moved, noted};
+ghost use Rattle.attributes.specs.Steps.{atEnd};
 
 // Where attributes begin, counted in bytes from the start of the block; the block's length where there is none. The last two
 // are where a new tag attribute and a new OTC would go.
@@ -32,10 +32,25 @@ pub struct Layout {
     pub new_otc: usize,
 }
 
-// What reading a block answers: where its attributes are, or its fault, 1 to 6.
-pub enum Reading {
-    Clean(Layout),
-    Fault(u8),
+// What reading a block answers: its first fault, 1 to 6, with every place at its end, or 0, with where its attributes are. (A struct
+// and no enum: what is read is handed on without being packed and taken apart again.)
+pub struct Reading {
+    pub fault: u8,
+    pub layout: Layout,
+}
+
+// No place found yet, in a block of n bytes: all stand at its end.
+fn nowhere(n: usize) -> Layout
+    ensures { λ r. ⌜ r ≡ atEnd n ⌝ }
+{
+    Layout {
+        origin: n,
+        as_path: n,
+        communities: n,
+        otc: n,
+        new_tag: n,
+        new_otc: n,
+    }
 }
 
 // The size of the attribute that `s` begins with, or 0 where `s` is too short for it.
@@ -54,70 +69,49 @@ fn fit_attribute(s: &[u8]) -> usize
     fit_size(4 + number2(s[2], s[3]), s.len())
 }
 
-// A place that is sought, once the attribute from `at` up to `next` is passed.
-fn move_place(place: usize, at: usize, next: usize, found: bool) -> usize
-    ensures { λ r. ⌜ r ≡ moved place at next found ⌝ }
+// A block of n bytes with a fault.
+fn unread(fault: u8, n: usize) -> Reading
+    ensures { λ r. ⌜ (r .fault ≡ fault) × (r .layout ≡ atEnd n) ⌝ }
 {
-    if place != at {
-        return place;
-    }
-    if found { at } else { next }
-}
-
-// All the places, where that attribute is of type `kind`.
-fn note(layout: Layout, kind: u8, at: usize, next: usize) -> Layout
-    ensures { λ r. ⌜ r ≡ noted layout kind at next ⌝ }
-{
-    Layout {
-        origin: move_place(layout.origin, at, next, kind == 1),
-        as_path: move_place(layout.as_path, at, next, kind == 2),
-        communities: move_place(layout.communities, at, next, kind == 16),
-        otc: move_place(layout.otc, at, next, kind == 35),
-        new_tag: move_place(layout.new_tag, at, next, 16 < kind),
-        new_otc: move_place(layout.new_otc, at, next, 35 < kind),
+    Reading {
+        fault,
+        layout: nowhere(n),
     }
 }
 
-// Reads a block of any length: where its attributes are, or its first fault.
+// Reads a block of any length: its first fault, or where its attributes are.
 pub fn read(block: &[u8]) -> Reading
     ensures { λ r. ⌜ Read (now (block .entry)) r ⌝ }
 {
     let mut seen = [0u8; 256];
-    let mut layout = Layout {
-        origin: 0,
-        as_path: 0,
-        communities: 0,
-        otc: 0,
-        new_tag: 0,
-        new_otc: 0,
-    };
+    let mut layout = nowhere(block.len());
     let mut at = 0;
     while at < block.len() {
         let n = fit_attribute(&block[at..]);
         if n == 0 {
-            return Reading::Fault(1);
+            return unread(1, block.len());
         }
         let a = &block[at..at + n];
-        let kind = a[1];
-        let k = wide(kind);
+        let k = wide(a[1]);
         if seen[k] != 0 {
-            return Reading::Fault(2);
+            return unread(2, block.len());
         }
-        let f = attribute_fault(a);
-        if f != 0 {
-            return Reading::Fault(f);
+        let noted = note(layout, a, at);
+        let fault = noted.fault;
+        if fault != 0 {
+            return unread(fault, block.len());
         }
         seen[k] = 1;
-        layout = note(layout, kind, at, at + n);
+        layout = noted.layout;
         at += n;
     }
     if seen[1] == 0 {
-        return Reading::Fault(3);
+        return unread(3, block.len());
     }
     if seen[2] == 0 {
-        return Reading::Fault(4);
+        return unread(4, block.len());
     }
-    Reading::Clean(layout)
+    Reading { fault: 0, layout }
 }
 
 // The size of the attribute at a place; 0 where none fits there.

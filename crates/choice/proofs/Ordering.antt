@@ -33,23 +33,23 @@ before-last x y = go (ltb x y) (eqb x y)
 
 -- Removals, in their order.
 module _ (mode client : ℕ) (e : Entry) where
-  pub removed-otc : e .otc ≡ true → true ≡ isRemoved mode client e
+  pub removed-otc : e .otc ≡ 1 → true ≡ isRemoved mode client e
   unfolding isRemoved
   removed-otc o = rw o refl
 
-  module _ (o : e .otc ≡ false) where
+  module _ (o : e .otc ≡ 1 → ⊥) where
     pub removed-own : e .address ≡ client → true ≡ isRemoved mode client e
     unfolding isRemoved
-    removed-own a = rw (o, eq-eqb (e .address) client a) refl
+    removed-own a = rw (ne-eqb (e .otc) 1 o, eq-eqb (e .address) client a) refl
 
     module _ (a : e .address ≡ client → ⊥) where
       pub removed-mode : (mode ≡ dropInvalid → ⊥) → false ≡ isRemoved mode client e
       unfolding isRemoved
-      removed-mode m = rw (o, ne-eqb (e .address) client a, ne-eqb mode dropInvalid m) refl
+      removed-mode m = rw (ne-eqb (e .otc) 1 o, ne-eqb (e .address) client a, ne-eqb mode dropInvalid m) refl
 
       pub removed-state : mode ≡ dropInvalid → eqb (e .state) invalid ≡ isRemoved mode client e
       unfolding isRemoved
-      removed-state m = rw (o, ne-eqb (e .address) client a, eq-eqb mode dropInvalid m) refl
+      removed-state m = rw (ne-eqb (e .otc) 1 o, ne-eqb (e .address) client a, eq-eqb mode dropInvalid m) refl
 
 -- Classes: one for all, or those of the states, of which the last is that of every other state.
 module _ (mode state : ℕ) where

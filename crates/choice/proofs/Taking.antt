@@ -1,17 +1,15 @@
 -- Removals, and all candidates in their sequence: the best route so far at their end is the one to choose.
-use Prim.Native.Nat.{ℕ, suc, _+_, _≤_, _<_, min}
+use Prim.Native.Nat.{ℕ, suc, _+_, _≤_, min}
 use mathlib.Core.Path.{_≡_, refl, sym, ap, _∙_}
 use mathlib.Core.Bool.{Bool, true, false, not, cond, _&&_, _||_}
-use mathlib.Core.List.{List, [], _∷_, _++_, map, foldl, append-nil, append-assoc, foldl-append, map-append}
-use native.Mathlib.Nat.{min-eq-left, min-eq-right, min-le-left, min-le-right}
+use mathlib.Core.List.{List, [], _∷_, _++_, map, foldl, append-nil, append-assoc}
 use native.Mathlib.Omega.{arith}
-use borrow.Author.Tests.{lt-ltb, le-ltb, ltb-true, ltb-false, ne-eqb, eq-eqb}
 use lib.Dec.{ltb, eqb}
-use lib.ListN.{length, length-append, getD}
+use lib.ListN.{getD}
 use Rattle.rules.specs.Bytes.{isEmpty, keep}
 use Rattle.rules.specs.Settings.{prioritise, dropInvalid, invalid}
 use Rattle.rules.specs.Attributes.{attributes, hasOtc}
-use Rattle.rules.specs.Choice.{Candidate, Offer, Numbered, Choice, candidate, numberedFrom, withoutOtc, notFrom, notInvalid, class, bestClass, remaining, keys, before, meet, chosenFrom}
+use Rattle.rules.specs.Choice.{Candidate, Offer, Numbered, candidate, numberedFrom, withoutOtc, notFrom, notInvalid, class, bestClass, remaining, before, chosenFrom}
 use Rattle.rules.proofs.Lists.{keep-append}
 use Rattle.choice.specs.declared.order.Best.{Best}
 use Rattle.choice.specs.Entries.{entryOf, keysOf, isRemoved, rank}
@@ -46,7 +44,7 @@ module _ (mode client : ℕ) where
 
       go : (otc own drops bad : Bool) → eqb (x .candidate .address) client ≡ own → eqb (x .candidate .state) invalid ≡ bad
           → cond drops (keep (λ r. not (eqb (r .candidate .state) invalid)) (others (cond (not otc) (x ∷ []) []))) (others (cond (not otc) (x ∷ []) []))
-          ≡ cond (otc || own || (drops && bad)) [] (x ∷ [])
+          ≡ cond (eqb (cond {A = ℕ} otc 1 0) 1 || own || (drops && bad)) [] (x ∷ [])
       go true true true b f e = refl
       go true true false b f e = refl
       go true false true b f e = refl

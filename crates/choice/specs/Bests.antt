@@ -1,21 +1,15 @@
 -- The best route so far, and what one candidate more makes of it.
 use Prim.Native.Nat.{ℕ, _+_}
-use mathlib.Core.Bool.{Bool, false, cond}
+use mathlib.Core.Bool.{cond}
 use lib.Dec.{ltb, eqb}
 use Rattle.rules.specs.Choice.{before}
 use Rattle.choice.specs.declared.entry.Entry.{Entry}
 use Rattle.choice.specs.declared.order.Best.{Best}
-use Rattle.choice.specs.Entries.{keysOf, isRemoved, rank}
+use Rattle.choice.specs.Entries.{unfitEntry, keysOf, isRemoved, rank}
 
 -- No route, with the highest class.
 unfoldable pub none : Best
-none =
-    record {
-      left = 0;
-      rank = 2;
-      index = 0;
-      entry = record { otc = false; state = 0; path = 0; origin = 0; identifier = 0; address = 0 };
-    }
+none = record { left = 0; rank = 2; index = 0; entry = unfitEntry }
 
 -- With the candidate of this class, index and entry as the best of this many.
 unfoldable pub with : ℕ → ℕ → ℕ → Entry → Best

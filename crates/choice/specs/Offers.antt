@@ -1,17 +1,15 @@
 -- Candidates as a table of bytes: 17 to each, which is this library's own layout.
 use Prim.Native.Nat.{ℕ}
 use mathlib.Core.Bool.{not, cond}
-use mathlib.Core.List.{List, [], _∷_, map}
-use lib.Dec.{ltb}
-use lib.ListN.{length, getD}
+use mathlib.Core.List.{List, _∷_, map}
+use lib.ListN.{getD}
 use Rattle.rules.specs.Bytes.{bigEndian, part}
 use Rattle.rules.specs.Rows.{chop, whole, by}
 use Rattle.rules.specs.Answers.{Answer, answer, _when_, refusals, resultOr}
 use Rattle.rules.specs.Choice.{Offer, Choice, candidate, badOffer, choose}
 use Rattle.rules.specs.declared.Refusal.the-variants.{BadLength}
-use Rattle.choice.specs.declared.entry.Examined.{Examined}
-use Rattle.choice.specs.declared.entry.Examined.the-variants.{Bad, Fit}
-use Rattle.choice.specs.Entries.{entryOf}
+use Rattle.choice.specs.declared.entry.Entry.{Entry}
+use Rattle.choice.specs.Entries.{unfitEntry, entryOf}
 
 abbrev pub offerSize : ℕ
 offerSize = 17
@@ -30,8 +28,8 @@ offer s =
 unfoldable pub offers : List ℕ → List Offer
 offers s = map offer (chop (by offerSize) s .items)
 
-unfoldable pub offerExamined : List ℕ → Offer → Examined
-offerExamined buffer o = cond (badOffer buffer o) Bad (Fit (entryOf (candidate buffer o)))
+unfoldable pub offerExamined : List ℕ → Offer → Entry
+offerExamined buffer o = cond (badOffer buffer o) unfitEntry (entryOf (candidate buffer o))
 
 -- Choosing from such a table: a length that is no multiple of a record is 6.
 unfoldable pub chooseIn : ℕ → ℕ → List ℕ → List ℕ → Answer Choice

@@ -5,7 +5,6 @@
 pub mod entry;
 pub mod order;
 
-use entry::Examined;
 use entry::examine;
 use entry::examine_offer;
 use order::goes_before;
@@ -35,10 +34,10 @@ pub fn choose(mode: u8, client: u32, buffer: &[u8], offers: &[u8]) -> Chosen
     let mut best = order::nothing();
     let mut at = 0;
     while 17 <= offers.len() - at {
-        let examined = examine_offer(buffer, &offers[at..at + 17]);
-        let Examined::Fit(entry) = examined else {
+        let entry = examine_offer(buffer, &offers[at..at + 17]);
+        if entry.fit == 0 {
             return Chosen::Refused(Refusal::BadCandidate(at / 17));
-        };
+        }
         best = order::take(best, meant, client, at / 17, entry);
         at += 17;
     }
@@ -69,15 +68,15 @@ pub fn better<'a>(
 {
     *answer = 10;
     *index = 0;
-    let first = examine(a, state, identifier, address);
-    let Examined::Fit(x) = first else {
+    let x = examine(a, state, identifier, address);
+    if x.fit == 0 {
         return &a[..0];
-    };
+    }
     *index = 1;
-    let second = examine(b, other_state, other_identifier, other_address);
-    let Examined::Fit(y) = second else {
+    let y = examine(b, other_state, other_identifier, other_address);
+    if y.fit == 0 {
         return &a[..0];
-    };
+    }
     *answer = 0;
     if goes_before(y, x) {
         return b;

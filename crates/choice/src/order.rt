@@ -1,5 +1,6 @@
 // The removals and the order of routes (01, "Choosing a route"): the best route so far meets the next candidate.
 use super::entry::Entry;
+use super::entry::unfit;
 use rules::INVALID;
 ghost use mathlib.Core.Path.{_≡_};
 ghost use Prim.Native.Nat.{_<_};
@@ -15,7 +16,7 @@ pub const PRIORITISE: u8 = 3;
 // The best route so far: how many are left beside and with it, the lowest class met, and its index and keys.
 pub struct Best {
     pub left: usize,
-    pub rank: u8,
+    pub rank: usize,
     pub index: usize,
     pub entry: Entry,
 }
@@ -28,14 +29,7 @@ pub fn nothing() -> Best
         left: 0,
         rank: 2,
         index: 0,
-        entry: Entry {
-            otc: false,
-            state: 0,
-            path: 0,
-            origin: 0,
-            identifier: 0,
-            address: 0,
-        },
+        entry: unfit(),
     }
 }
 
@@ -59,20 +53,20 @@ pub fn goes_before(x: Entry, y: Entry) -> bool
 fn removed(mode: u8, client: u32, entry: Entry) -> bool
     ensures { λ r. ⌜ r ≡ isRemoved mode client entry ⌝ }
 {
-    if entry.otc {
+    if entry.otc == 1 {
         return true;
     }
-    if entry.address == client {
+    if entry.address == client as usize {
         return true;
     }
     if mode != DROP_INVALID {
         return false;
     }
-    entry.state == INVALID
+    entry.state == INVALID as usize
 }
 
 // The class by which a mode prefers a state: 0; then 1 and 3; then 2. One class for all where the mode does not prioritise.
-fn rank_of(mode: u8, state: u8) -> u8
+fn rank_of(mode: u8, state: usize) -> usize
     ensures { λ r. ⌜ r ≡ rank mode state ⌝ }
 {
     if mode != PRIORITISE {
@@ -87,7 +81,7 @@ fn rank_of(mode: u8, state: u8) -> u8
 }
 
 // The best route so far meets the next candidate. Internal.
-fn meet(best: Best, rank: u8, index: usize, entry: Entry) -> Best
+fn meet(best: Best, rank: usize, index: usize, entry: Entry) -> Best
     requires { ⌜ best .left < 64 ⌝ }
     ensures { λ r. ⌜ r ≡ met best rank index entry ⌝ }
 {

@@ -18,9 +18,7 @@ use Rattle.rules.specs.Origin.{vrpSize, vrps, badVrp, stateIn, originIn, origin
 use Rattle.rules.specs.declared.Refusal.{Refusal}
 use Rattle.rules.specs.declared.Refusal.the-variants.{Malformed, BadSetting, BadLength, BadVrp}
 use Rattle.attributes.specs.Layout.{layout, Read, valueAt}
-use Rattle.attributes.specs.declared.Layout.{Layout}
 use Rattle.attributes.specs.declared.Reading.{Reading}
-use Rattle.attributes.specs.declared.Reading.the-variants.{Clean, Fault}
 use Rattle.attributes.proofs.Found.{value-of, fault-read, clean-read}
 use Rattle.origin.specs.Scan.{GoodTable}
 use Rattle.origin.specs.Table.{tableCheck}
@@ -89,14 +87,14 @@ module _ (w len prefix own : ℕ) (table b : List ℕ) where
 
   -- What the reader says, taken apart.
   module _ {r : Reading} (p : Read b r) where
-    pub validated-fault : {f : ℕ} → r ≡ Fault f → refused (Malformed f) ≡ validated w len prefix own table b
+    pub validated-fault : (r .fault ≡ 0 → ⊥) → refused (Malformed (r .fault)) ≡ validated w len prefix own table b
     unfolding validated
     validated-fault q = let k = fault-read p q in rw (k .0, k .1) refl
 
-    pub validated-clean : {l : Layout} {path : List ℕ} {origin : Option ℕ} {state : ℕ} → r ≡ Clean l → path ≡ valueAt (l .«as_path») b
+    pub validated-clean : {path : List ℕ} {origin : Option ℕ} {state : ℕ} → r .fault ≡ 0 → path ≡ valueAt (r .layout .«as_path») b
         → origin ≡ originIn own (segments path) → state ≡ stateIn w (vrps w table) prefix len origin → done state ≡ validated w len prefix own table b
     unfolding validated originAs layout
-    validated-clean {l} {path} q v o s =
+    validated-clean {path} q v o s =
         let k = clean-read p q in
         let e : path ≡ valueOf asPathType (attributes b) = v ∙ rw (k .1) (value-of asPathType b (k .0)) in
         rw (k .0, s, o, e) refl
@@ -109,13 +107,13 @@ module _ (b : List ℕ) where
   tag-long h = rw (lt-ltb blockMax (length b) h) refl
 
   module _ (h : length b ≤ blockMax) {r : Reading} (p : Read b r) where
-    pub tag-fault : {f : ℕ} → r ≡ Fault f → refused (Malformed f) ≡ receivedTag b
+    pub tag-fault : (r .fault ≡ 0 → ⊥) → refused (Malformed (r .fault)) ≡ receivedTag b
     unfolding receivedTag blockChecks readable answer order first number
     tag-fault q = let k = fault-read p q in rw (le-ltb blockMax (length b) h, k .0, k .1) refl
 
-    pub tag-clean : {l : Layout} {v : List ℕ} {state : ℕ} → r ≡ Clean l → v ≡ valueAt (l .communities) b → state ≡ tagState (tagValues v) → done state ≡ receivedTag b
+    pub tag-clean : {v : List ℕ} {state : ℕ} → r .fault ≡ 0 → v ≡ valueAt (r .layout .communities) b → state ≡ tagState (tagValues v) → done state ≡ receivedTag b
     unfolding receivedTag blockChecks readable layout answer order first number
-    tag-clean {l} {v} q e s =
+    tag-clean {v} q e s =
         let k = clean-read p q in
         let f : v ≡ valueOf communitiesType (attributes b) = e ∙ rw (k .1) (value-of communitiesType b (k .0)) in
         rw (le-ltb blockMax (length b) h, k .0, s, f) refl

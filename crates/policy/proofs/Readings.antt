@@ -4,47 +4,48 @@ use mathlib.Core.Bool.{Bool, true, false, not, cond}
 use mathlib.Core.List.{List}
 use Prim.Native.Nat.{ℕ, _≤_, _<_}
 use native.Mathlib.Omega.{arith}
-use lib.Dec.{eqb, ltb}
+use lib.Dec.{leb, eqb, ltb}
 use lib.ListN.{length}
-use borrow.Author.Tests.{lt-ltb, le-ltb}
+use borrow.Author.Tests.{lt-ltb, le-ltb, leb-true, leb-false}
 use Rattle.rules.specs.Bytes.{bigEndian}
-use Rattle.rules.specs.Answers.{refused}
+use Rattle.rules.specs.Answers.{Answer, refused}
 use Rattle.rules.specs.Settings.{blockMax}
-use Rattle.rules.specs.Attributes.{attributes, fault, readable, hasOtc, otcAs, valueOf, otcType}
+use Rattle.rules.specs.Attributes.{Attribute, attributes, fault, readable, hasOtc, otcAs, valueOf, otcType}
 use Rattle.rules.specs.declared.Session.{Session}
 use Rattle.rules.specs.declared.Refusal.the-variants.{Malformed, BadSetting, BadLength}
 use Rattle.attributes.specs.Layout.{layout, Read, valueAt}
 use Rattle.attributes.specs.declared.Layout.{Layout}
 use Rattle.attributes.specs.declared.Reading.{Reading}
-use Rattle.attributes.specs.declared.Reading.the-variants.{Clean, Fault}
 use Rattle.attributes.proofs.Found.{value-of, has-of, otc-as-of, fault-read, clean-read}
 use Rattle.policy.specs.Judge.{receiptRule, sendingRule}
-use Rattle.policy.specs.Checks.{checkedFirst, Passed, Checking}
-use Rattle.policy.specs.declared.checks.Checked.the-variants.{Refused, Clean as Passes}
+use Rattle.policy.specs.Checks.{checkedFirst, Passed}
 
--- What is checked first, in the code's order.
-module _ (b : List ℕ) where
-  pub bad-setting : {ok : Bool} → ok ≡ false → Checking ok b (Refused BadSetting)
+-- What is checked first, in the code's order: whatever the rules decide, these refuse.
+module _ (b : List ℕ) {ok : Bool} where
+  pub bad-setting : ok ≡ false → (rules : Answer (List Attribute)) → checkedFirst ok b rules ≡ refused BadSetting
   unfolding checkedFirst
   bad-setting e rules = rw e refl
 
-  module _ {ok : Bool} (e : ok ≡ true) where
-    pub bad-length : blockMax < length b → Checking ok b (Refused BadLength)
+  module _ (e : ok ≡ true) where
+    pub bad-length : leb (length b) blockMax ≡ false → (rules : Answer (List Attribute)) → checkedFirst ok b rules ≡ refused BadLength
     unfolding checkedFirst
-    bad-length h rules = rw (e, lt-ltb blockMax (length b) h) refl
+    bad-length h rules = rw (e, lt-ltb blockMax (length b) (leb-false (length b) blockMax h)) refl
 
-    module _ (h : length b ≤ blockMax) where
-      pub read-fault : {r : Reading} {f : ℕ} → Read b r → r ≡ Fault f → Checking ok b (Refused (Malformed f))
-      unfolding checkedFirst readable
-      read-fault p q rules =
-          let k = fault-read p q in
-          rw (e, le-ltb blockMax (length b) h, k .0, k .1) refl
+    module _ (h : leb (length b) blockMax ≡ true) {r : Reading} (p : Read b r) where
+      small : length b ≤ blockMax
+      small = leb-true (length b) blockMax h
 
-      pub read-clean : {r : Reading} {l : Layout} → Read b r → r ≡ Clean l → Checking ok b (Passes l)
+      pub read-fault : (r .fault ≡ 0 → ⊥) → (rules : Answer (List Attribute)) → checkedFirst ok b rules ≡ refused (Malformed (r .fault))
       unfolding checkedFirst readable
-      read-clean p q =
-          let k = clean-read p q in
-          record { okay = e; small = h; good = k .0; is = k .1; decides = λ rules. rw (e, le-ltb blockMax (length b) h, k .0) refl }
+      read-fault n rules =
+          let k = fault-read p n in
+          rw (e, le-ltb blockMax (length b) small, k .0, k .1) refl
+
+      pub read-clean : r .fault ≡ 0 → Passed ok b (r .layout)
+      unfolding checkedFirst readable
+      read-clean z =
+          let k = clean-read p z in
+          record { okay = e; small = small; good = k .0; is = k .1; decides = λ rules. rw (e, le-ltb blockMax (length b) small, k .0) refl }
 
 -- The rule of receipt, and of sending, that the code finds is that of the attributes.
 module _ (s : Session) {ok : Bool} {b : List ℕ} {l : Layout} (w : Passed ok b l) where

@@ -15,10 +15,7 @@ use Rattle.rules.specs.declared.Refusal.{Refusal}
 use Rattle.rules.specs.declared.Refusal.the-variants.{NoRoom}
 use Rattle.octets.specs.Buffer.{Stored}
 use Rattle.octets.proofs.Splices.{splice-zero}
-use Rattle.policy.specs.Stores.{StoredOr7, Sound, CarriedOut}
-use Rattle.policy.specs.Plan.{Judged}
-use Rattle.policy.specs.declared.Verdict.{Verdict}
-use Rattle.policy.specs.declared.Verdict.the-variants.{Stop, Go}
+use Rattle.policy.specs.Stores.{StoredOr7}
 
 -- A result is stored from the start of the buffer where there is room for it.
 module _ (s before : List ℕ) where
@@ -42,7 +39,7 @@ module _ (s before : List ℕ) where
         record { answered = rw (e, f) (ap done (omega (arith, p .next))); buffer = rw (e, f) (p .is ∙ splice-zero before s) }
 
 -- What is promised of a refusal, and of a plan's bytes.
-leaves-refused : {decided : Answer (List Attribute)} (before : List ℕ) {r : Refusal} → decided ≡ refused r
+pub leaves-refused : {decided : Answer (List Attribute)} (before : List ℕ) {r : Refusal} → decided ≡ refused r
     → Leaves decided before (refused r) before
 unfolding fitted sized stored
 leaves-refused before e = rw e (record { answered = refl; buffer = refl })
@@ -57,29 +54,13 @@ unfolding stored
 room-left true s before = refl
 room-left false s before = refl
 
-leaves-stored : {decided : Answer (List Attribute)} {m : List Attribute} {s before : List ℕ} {told : Answer ℕ} {after : List ℕ}
-    → decided ≡ done m → s ≡ encode m → StoredOr7 s before told after → Leaves decided before told after
+pub leaves-stored : {decided : Answer (List Attribute)} {m : List Attribute} {before : List ℕ} {told : Answer ℕ} {after : List ℕ}
+    → decided ≡ done m → StoredOr7 (encode m) before told after → Leaves decided before told after
 unfolding fitted answer order first number
-leaves-stored {m = m} {before = before} e q p =
+leaves-stored {m = m} {before = before} e p =
     let r = encode m in
-    let a = rw q at (p .answered) in
-    let w = rw q at (p .buffer) in
     rw e
     (record {
-      answered = a ∙ room-told (noRoom r (length before)) r;
-      buffer = w ∙ room-left (noRoom r (length before)) r before;
+      answered = p .answered ∙ room-told (noRoom r (length before)) r;
+      buffer = p .buffer ∙ room-left (noRoom r (length before)) r before;
     })
-
--- A refusal is told, and the buffer stays.
-pub carried-refusal : (b before : List ℕ) (v : Verdict) {r : Refusal} → v ≡ Stop r → CarriedOut b v before (refused r) before
-carried-refusal b before v e = rw e (refl, refl)
-
--- A verdict carried out is what was decided.
-pub judged-sound : (decided : Answer (List Attribute)) (b : List ℕ) (v : Verdict) → Judged decided b v → Sound b v
-judged-sound decided b (Stop r) j = tt
-judged-sound decided b (Go p) j = (j .2 .ok, j .2 .size)
-
-pub judged-leaves : (decided : Answer (List Attribute)) (b : List ℕ) (v : Verdict) {before : List ℕ} {told : Answer ℕ} {after : List ℕ}
-    → Judged decided b v → CarriedOut b v before told after → Leaves decided before told after
-judged-leaves decided b (Stop r) {before} j c = rw (c .0, c .1) (leaves-refused before j)
-judged-leaves decided b (Go p) j c = leaves-stored (j .1) (j .2 .is) c

@@ -11,8 +11,6 @@ use Rattle.rules.specs.Attributes.{Attribute, attributes, fault, readable}
 use Rattle.rules.specs.declared.Refusal.the-variants.{Malformed, BadSetting, BadLength}
 use Rattle.attributes.specs.Layout.{layout}
 use Rattle.attributes.specs.declared.Layout.{Layout}
-use Rattle.policy.specs.declared.checks.Checked.{Checked}
-use Rattle.policy.specs.declared.checks.Checked.the-variants.{Refused, Clean}
 
 -- The settings, the size and the fault of a block decide, in this order; else what the rules decide.
 unfoldable pub checkedFirst : Bool → List ℕ → Answer (List Attribute) → Answer (List Attribute)
@@ -28,8 +26,3 @@ pub record Passed (ok : Bool) (b : List ℕ) (l : Layout) : Type 0 where
   pub good : readable b ≡ true
   pub is : l ≡ layout (attributes b)
   pub decides : (rules : Answer (List Attribute)) → checkedFirst ok b rules ≡ rules
-
--- What the code says of that: a refusal, whatever the rules decide, or that the block has passed.
-abbrev pub Checking : Bool → List ℕ → Checked → Type 0
-Checking ok b (Refused r) = (rules : Answer (List Attribute)) → checkedFirst ok b rules ≡ refused r
-Checking ok b (Clean l) = Passed ok b l

@@ -11,10 +11,7 @@ use lib.ListN.{length, getD}
 use Rattle.rules.specs.Bytes.{part, isEmpty, bytes4}
 use Rattle.rules.specs.Attributes.{Attribute, attribute, attributes, lengthBytes, encodeOne, encode, communitiesType, otcType}
 use Rattle.rules.specs.Changes.{isTag, tag, dropFrom, withValue, newAttribute, newFlags, rewritten}
-use Rattle.rules.specs.Answers.{Answer, done, refused}
 use Rattle.policy.specs.declared.Plan.{Plan}
-use Rattle.policy.specs.declared.Verdict.{Verdict}
-use Rattle.policy.specs.declared.Verdict.the-variants.{Stop, Go}
 
 -- The state that a tag is to tell: 3, unavailable, stands for no tag. The AS that a new OTC is to name: 0 stands for no new OTC.
 unfoldable pub toldTag : ℕ → Option ℕ
@@ -88,11 +85,6 @@ pub record Stands (b : List ℕ) (m : List Attribute) (p : Plan) : Type 0 where
 -- A plan for a block, the state of a tag and the AS of an OTC stands for what `rules` makes of it.
 abbrev pub Planned : List ℕ → ℕ → ℕ → Plan → Type 0
 Planned b state asn p = Stands b (rewritten isTag newFlags (toldTag state) (toldOtc asn) (attributes b)) p
-
--- What is decided of a block, as the code says it: the refusal, or a plan for the attributes to store.
-abbrev pub Judged : Answer (List Attribute) → List ℕ → Verdict → Type 0
-Judged decided b (Stop r) = decided ≡ refused r
-Judged decided b (Go p) = (m : List Attribute) × (decided ≡ done m) × Stands b m p
 
 -- What the size of a block as it goes out is found from: its communities attribute, k bytes at a place (none where k is 0), and the
 -- bytes of communities left in it.

@@ -6,15 +6,16 @@ use roles::PROVIDER;
 use roles::RS;
 use roles::RS_CLIENT;
 use roles::remote_role;
+use rules::BLOCK_MAX;
 use rules::Session;
 ghost use mathlib.Core.Path.{_≡_};
 ghost use mathlib.Core.Bool.{true, not, cond, _&&_};
 ghost use mathlib.Core.List.{[], _∷_};
 ghost use mathlib.Core.Option.{none, some};
 ghost use Prim.Native.Nat.{_≤_};
-ghost use lib.Dec.{eqb};
+ghost use lib.Dec.{leb, eqb};
 ghost use Rattle.rules.specs.Bytes.{oneOf};
-ghost use Rattle.rules.specs.Settings.{asOk, sourceOk, stateOk, sessionOk, modeMeant, dropInvalid, invalid};
+ghost use Rattle.rules.specs.Settings.{blockMax, asOk, sourceOk, stateOk, sessionOk, modeMeant, dropInvalid, invalid};
 ghost use Rattle.rules.specs.Roles.{provider, rs, rsClient, customer, peer, counterpart};
 ghost use Rattle.rules.specs.Receipt.{otcReceived};
 ghost use Rattle.rules.specs.Sending.{ownRoute, tagSent, otcSent};
@@ -54,6 +55,13 @@ fn one_of_three(n: u8, a: u8, b: u8, c: u8) -> bool
     ensures { λ r. ⌜ r ≡ oneOf (a ∷ b ∷ c ∷ []) n ⌝ }
 {
     n == a || one_of_two(n, b, c)
+}
+
+// 01, "Sizes": a block of up to 4,073 bytes.
+pub fn size_ok(len: usize) -> bool
+    ensures { λ r. ⌜ r ≡ leb len blockMax ⌝ }
+{
+    len <= BLOCK_MAX
 }
 
 // 01, Settings: "AS numbers 1 to 4,294,967,295", "the two of a session unequal".

@@ -1,15 +1,14 @@
 // Receipt and sending (RFC 9234 section 5, RFC 8097; 01, "Receipt" and "Sending"): first the verdict and the exact length of the
 // result, then one pass that stores it.
-pub mod checks;
 pub mod communities;
 pub mod judge;
 pub mod planner;
 pub mod writer;
 
+use attributes::Layout;
 use attributes::otc_as;
+use attributes::read;
 use attributes::value;
-use checks::Checked;
-use checks::check_block;
 use judge::receipt_rule;
 use judge::received_otc;
 use judge::sending_ok;
@@ -17,6 +16,7 @@ use judge::sending_rule;
 use judge::sent_otc;
 use judge::sent_tag;
 use judge::session_ok;
+use judge::size_ok;
 use planner::plan;
 use rules::BLOCK_MAX;
 use rules::Refusal;
@@ -24,12 +24,17 @@ use rules::Session;
 use rules::Written;
 use writer::write;
 ghost use mathlib.Core.Path.{_≡_};
+ghost use mathlib.Core.Bool.{true};
+ghost use Prim.Native.Nat.{_≤_};
 ghost use lib.ListN.{length};
 ghost use Rattle.rules.specs.Answers.{toldWritten};
-ghost use Rattle.rules.specs.Receipt.{receiptVerdict, Got};
-ghost use Rattle.rules.specs.Sending.{sendingVerdict, Sent};
-ghost use Rattle.policy.specs.Plan.{emitted, PlanOk, Judged};
-ghost use Rattle.policy.specs.Stores.{StoredOr7, Sound, CarriedOut};
+ghost use Rattle.rules.specs.Attributes.{attributes, readable, encode};
+ghost use Rattle.rules.specs.Changes.{isTag, newFlags, rewritten};
+ghost use Rattle.rules.specs.Receipt.{Got};
+ghost use Rattle.rules.specs.Sending.{Sent};
+ghost use Rattle.attributes.specs.Layout.{layout};
+ghost use Rattle.policy.specs.Plan.{toldTag, toldOtc};
+ghost use Rattle.policy.specs.Stores.{StoredOr7};
 
 // What is planned for a block before any byte of it is stored: where its communities attribute begins and what follows it
 // begins (the block's length where there is none), how many bytes of communities are left, where a new tag and a new OTC would
@@ -45,61 +50,13 @@ pub struct Plan {
     pub size: usize,
 }
 
-// What is decided of a block before any buffer is looked at.
-pub enum Verdict {
-    Stop(Refusal),
-    Go(Plan),
-}
-
-// The verdict on a received block, with the exact length of what would be stored.
-pub fn receipt_verdict(session: Session, block: &[u8]) -> Verdict
-    ensures { λ r. ⌜ Judged (receiptVerdict session (now (block .entry))) (now (block .entry)) r ⌝ }
+// Stores a block that has been read as it goes out, with the state of a tag (3: none) and the AS of an OTC (0: none), or
+// answers 7. Internal.
+pub fn store(block: &[u8], layout: Layout, tag: u8, asn: u32, out: &mut [u8]) -> Written
+    requires { ⌜ (readable (now block) ≡ true) × (layout ≡ Rattle.attributes.specs.Layout.layout (attributes (now block))) × (length (now block) ≤ 4073) ⌝ }
+    ensures { λ r. ⌜ StoredOr7 (encode (rewritten isTag newFlags (toldTag tag) (toldOtc asn) (attributes (now (block .entry))))) (now (out .entry)) (toldWritten r) (now (out .exit)) ⌝ }
 {
-    let checked = check_block(session_ok(session), block);
-    match checked {
-        Checked::Refused(refusal) => {
-            return Verdict::Stop(refusal);
-        }
-        Checked::Clean(layout) => {
-            let place = layout.otc;
-            let otc = otc_as(value(block, place));
-            let rule = receipt_rule(session, place < block.len(), otc);
-            if rule != 0 {
-                return Verdict::Stop(Refusal::Ineligible(rule));
-            }
-            let asn = received_otc(session);
-            Verdict::Go(plan(block, layout, 3, asn))
-        }
-    }
-}
-
-// The verdict on a block to send, with the exact length of what would be stored.
-pub fn sending_verdict(session: Session, source: u8, state: u8, block: &[u8]) -> Verdict
-    ensures { λ r. ⌜ Judged (sendingVerdict session source state (now (block .entry))) (now (block .entry)) r ⌝ }
-{
-    let checked = check_block(sending_ok(session, source, state), block);
-    match checked {
-        Checked::Refused(refusal) => {
-            return Verdict::Stop(refusal);
-        }
-        Checked::Clean(layout) => {
-            let place = layout.otc;
-            let rule = sending_rule(session, source, state, place < block.len());
-            if rule != 0 {
-                return Verdict::Stop(Refusal::Withheld(rule));
-            }
-            let tag = sent_tag(session, source, state);
-            let asn = sent_otc(session, source, state);
-            Verdict::Go(plan(block, layout, tag, asn))
-        }
-    }
-}
-
-// Stores a block as it is planned, or answers 7. Internal.
-pub fn store(block: &[u8], plan: Plan, out: &mut [u8]) -> Written
-    requires { ⌜ (PlanOk (now block) plan) × (plan .size ≡ length (emitted (now block) plan)) ⌝ }
-    ensures { λ r. ⌜ StoredOr7 (emitted (now (block .entry)) plan) (now (out .entry)) (toldWritten r) (now (out .exit)) ⌝ }
-{
+    let plan = plan(block, layout, tag, asn);
     let size = plan.size;
     if out.len() < size {
         return Written::Refused(Refusal::NoRoom);
@@ -110,31 +67,54 @@ pub fn store(block: &[u8], plan: Plan, out: &mut [u8]) -> Written
     Written::Bytes(write(block, plan, out))
 }
 
-// Does what was decided: tells the refusal, or stores the block as it is planned. Internal.
-pub fn carry_out(block: &[u8], verdict: Verdict, out: &mut [u8]) -> Written
-    requires { ⌜ Sound (now block) verdict ⌝ }
-    ensures { λ r. ⌜ CarriedOut (now (block .entry)) verdict (now (out .entry)) (toldWritten r) (now (out .exit)) ⌝ }
-{
-    match verdict {
-        Verdict::Stop(refusal) => {
-            return Written::Refused(refusal);
-        }
-        Verdict::Go(plan) => store(block, plan, out),
-    }
-}
-
 // Receipt (RFC 9234 section 5, ingress): the route as it may be installed, or why not.
 pub fn receive(session: Session, block: &[u8], out: &mut [u8]) -> Written
     ensures { λ r. ⌜ Got session (now (block .entry)) (now (out .entry)) (toldWritten r) (now (out .exit)) ⌝ }
 {
-    let verdict = receipt_verdict(session, block);
-    carry_out(block, verdict, out)
+    if !session_ok(session) {
+        return Written::Refused(Refusal::BadSetting);
+    }
+    if !size_ok(block.len()) {
+        return Written::Refused(Refusal::BadLength);
+    }
+    let reading = read(block);
+    let fault = reading.fault;
+    if fault != 0 {
+        return Written::Refused(Refusal::Malformed(fault));
+    }
+    let layout = reading.layout;
+    let place = layout.otc;
+    let otc = otc_as(value(block, place));
+    let rule = receipt_rule(session, place < block.len(), otc);
+    if rule != 0 {
+        return Written::Refused(Refusal::Ineligible(rule));
+    }
+    let asn = received_otc(session);
+    store(block, layout, 3, asn, out)
 }
 
 // Sending (RFC 9234 section 5, egress): the route as it goes to the neighbour, or why it is withheld.
 pub fn send(session: Session, source: u8, state: u8, block: &[u8], out: &mut [u8]) -> Written
     ensures { λ r. ⌜ Sent session source state (now (block .entry)) (now (out .entry)) (toldWritten r) (now (out .exit)) ⌝ }
 {
-    let verdict = sending_verdict(session, source, state, block);
-    carry_out(block, verdict, out)
+    if !sending_ok(session, source, state) {
+        return Written::Refused(Refusal::BadSetting);
+    }
+    if !size_ok(block.len()) {
+        return Written::Refused(Refusal::BadLength);
+    }
+    let reading = read(block);
+    let fault = reading.fault;
+    if fault != 0 {
+        return Written::Refused(Refusal::Malformed(fault));
+    }
+    let layout = reading.layout;
+    let place = layout.otc;
+    let rule = sending_rule(session, source, state, place < block.len());
+    if rule != 0 {
+        return Written::Refused(Refusal::Withheld(rule));
+    }
+    let tag = sent_tag(session, source, state);
+    let asn = sent_otc(session, source, state);
+    store(block, layout, tag, asn, out)
 }

@@ -13,12 +13,6 @@ use Rattle.choice.proofs.better.Tie as tie
 examine-requires : tie.Need-examine-requires
 examine-requires c κs = search needs
 
-enum-known-first : tie.Need-enum-known-first
-enum-known-first c = search needs
-
-enum-told : tie.Need-enum-told
-enum-told c = search needs
-
 slice-aggregate-result : tie.Need-slice-aggregate-result
 slice-aggregate-result c = search needs
 
@@ -28,16 +22,10 @@ returns c =
     let a = c .before .before .before .before .before .before .args in
     let x : Candidate = record { block = now (a .a); state = a .state; identifier = a .identifier; address = a .address } in
     let y : Candidate = record { block = now (a .b); state = a .other-state; identifier = a .other-identifier; address = a .other-address } in
-    rw (better-first x y (examined-bad x (sym (c .before .before .before .examine .ensures) ∙ c .before .enum-told .given .1))) (record { answered = refl; beside = refl; shows = (refl, refl) })
+    rw (better-first x y (examined-bad x (rw (c .before .before .before .examine .ensures) at (c .before .if1 .taken)))) (record { answered = refl; beside = refl; shows = (refl, refl) })
 
 examine-requires-2 : tie.Need-examine-requires-2
 examine-requires-2 c κs = search needs
-
-enum-known-second : tie.Need-enum-known-second
-enum-known-second c = search needs
-
-enum-told-2 : tie.Need-enum-told-2
-enum-told-2 c = search needs
 
 slice-aggregate-result-2 : tie.Need-slice-aggregate-result-2
 slice-aggregate-result-2 c = search needs
@@ -45,11 +33,11 @@ slice-aggregate-result-2 c = search needs
 returns-2 : tie.Need-returns-2
 unfolding Shows answerNumber number besideNumber beside
 returns-2 c =
-    let a = c .before .before .before .before .before .before .before .before .before .before .args in
+    let a = c .before .before .before .before .before .before .before .before .before .args in
     let x : Candidate = record { block = now (a .a); state = a .state; identifier = a .identifier; address = a .address } in
     let y : Candidate = record { block = now (a .b); state = a .other-state; identifier = a .other-identifier; address = a .other-address } in
-    let u = examined-fit x (sym (c .before .before .before .before .before .before .before .examine .ensures) ∙ c .before .before .before .before .before .first .given .1) in
-    rw (better-second x y (u .0) (examined-bad y (sym (c .before .before .before .examine2 .ensures) ∙ c .before .enum-told2 .given .1))) (record { answered = refl; beside = refl; shows = (refl, refl) })
+    let u = examined-fit x (rw (c .before .before .before .before .before .before .examine .ensures) at (c .before .before .before .before .if1 .left)) in
+    rw (better-second x y (u .0) (examined-bad y (rw (c .before .before .before .examine2 .ensures) at (c .before .if2 .taken)))) (record { answered = refl; beside = refl; shows = (refl, refl) })
 
 goes-before-requires : tie.Need-goes-before-requires
 goes-before-requires c κs = search needs
@@ -57,23 +45,27 @@ goes-before-requires c κs = search needs
 returns-3 : tie.Need-returns-3
 unfolding Shows answerNumber number besideNumber beside
 returns-3 c =
-    let a = c .before .before .before .before .before .before .before .before .before .before .before .before .args in
+    let a = c .before .before .before .before .before .before .before .before .before .before .args in
     let x : Candidate = record { block = now (a .a); state = a .state; identifier = a .identifier; address = a .address } in
     let y : Candidate = record { block = now (a .b); state = a .other-state; identifier = a .other-identifier; address = a .other-address } in
-    let u = examined-fit x (sym (c .before .before .before .before .before .before .before .before .before .examine .ensures) ∙ c .before .before .before .before .before .before .before .first .given .1) in
-    let v = examined-fit y (sym (c .before .before .before .before .before .examine2 .ensures) ∙ c .before .before .before .second .given .1) in
-    let t = rw (u .1, v .1) at (sym (c .before .goes-before .ensures) ∙ c .if1 .taken) in
+    let ex = c .before .before .before .before .before .before .before .examine .ensures in
+    let ey = c .before .before .before .before .examine2 .ensures in
+    let u = examined-fit x (rw ex at (c .before .before .before .before .before .if1 .left)) in
+    let v = examined-fit y (rw ey at (c .before .before .if2 .left)) in
+    let t = rw (ex ∙ u .1, ey ∙ v .1) at (sym (c .before .goes-before .ensures) ∙ c .if3 .taken) in
     rw (better-neither x y (u .0) (v .0) t) (record { answered = refl; beside = refl; shows = refl })
 
 returns-4 : tie.Need-returns-4
 unfolding Shows answerNumber number besideNumber beside
 returns-4 c =
-    let a = c .before .before .before .before .before .before .before .before .before .before .before .before .args in
+    let a = c .before .before .before .before .before .before .before .before .before .before .args in
     let x : Candidate = record { block = now (a .a); state = a .state; identifier = a .identifier; address = a .address } in
     let y : Candidate = record { block = now (a .b); state = a .other-state; identifier = a .other-identifier; address = a .other-address } in
-    let u = examined-fit x (sym (c .before .before .before .before .before .before .before .before .before .examine .ensures) ∙ c .before .before .before .before .before .before .before .first .given .1) in
-    let v = examined-fit y (sym (c .before .before .before .before .before .examine2 .ensures) ∙ c .before .before .before .second .given .1) in
-    let t = rw (u .1, v .1) at (sym (c .before .goes-before .ensures) ∙ c .if1 .left) in
+    let ex = c .before .before .before .before .before .before .before .examine .ensures in
+    let ey = c .before .before .before .before .examine2 .ensures in
+    let u = examined-fit x (rw ex at (c .before .before .before .before .before .if1 .left)) in
+    let v = examined-fit y (rw ey at (c .before .before .if2 .left)) in
+    let t = rw (ex ∙ u .1, ey ∙ v .1) at (sym (c .before .goes-before .ensures) ∙ c .if3 .left) in
     rw (better-neither x y (u .0) (v .0) t) (record { answered = refl; beside = refl; shows = refl })
 
 pub better-spec : {M : Type 1} → statement M
@@ -81,13 +73,9 @@ better-spec =
     tie.close
     (tie.spec
     examine-requires
-    enum-known-first
-    enum-told
     slice-aggregate-result
     returns
     examine-requires-2
-    enum-known-second
-    enum-told-2
     slice-aggregate-result-2
     returns-2
     goes-before-requires

@@ -1,20 +1,20 @@
 -- `choose` meets its contract. The loop's invariant: none of the candidates before `at` is bad, and the best route so far with those
 -- from `at` on gives the best of all.
-use Prim.Native.Nat.{_-_, _+_, _/_, _%_, _≤_}
+use Prim.Native.Nat.{_-_, _/_, _%_, _≤_}
 use mathlib.Core.Path.{_≡_, refl, sym, ap, _∙_}
-use mathlib.Core.List.{List, map}
+use mathlib.Core.List.{map}
 use native.Mathlib.Omega.{arith}
 use denote.Ref.{now}
 use borrow.Author.Needs.{needs}
 use lib.ListN.{length, drop}
-use Rattle.rules.specs.Choice.{Numbered, candidate, badOffer, numberedFrom, toldChosen}
+use Rattle.rules.specs.Choice.{candidate, badOffer, numberedFrom, toldChosen}
 use Rattle.rules.proofs.Lists.{Past, past-start, past-next}
 use Rattle.octets.proofs.Slices.{part-length}
 use Rattle.choice.specs.declared.order.Best.{Best}
 use Rattle.choice.specs.Bests.{none}
 use Rattle.choice.specs.Offers.{offer, offers as offersOf}
 use Rattle.choice.proofs.Examining.{offer-bad, offer-fit, offers-next, offers-end}
-use Rattle.choice.proofs.Taking.{takenAll, taken-next, taken-left, taken-offer, taken-end, taken-none, taken-some}
+use Rattle.choice.proofs.Taking.{takenAll, taken-left, taken-offer, taken-end, taken-none, taken-some}
 use Rattle.choice.proofs.Choosing.{choose-setting, choose-torn, choose-many, choose-bad, choose-none, choose-some}
 use Rattle.choice.proofs.choose.Statement.{statement}
 use Rattle.choice.proofs.choose.Tie as tie
@@ -82,12 +82,6 @@ examine-offer-requires c κs =
     let l = c .before .before in
     part-length (now (l .before .before .before .before .before .before .before .before .args .offers)) (l .loop .at) 17 (omega arith)
 
-enum-known-examined : tie.Need-enum-known-examined Inv-loop μ-loop
-enum-known-examined c = search needs
-
-enum-told : tie.Need-enum-told Inv-loop μ-loop
-enum-told c = search needs
-
 returns-4 : tie.Need-returns-4 Inv-loop μ-loop
 unfolding toldChosen
 returns-4 c =
@@ -95,11 +89,11 @@ returns-4 c =
     let s = l .before .before .before .before .before .before .before .before in
     let a = s .args in
     let t = now (a .offers) in
-    choose-bad (a .mode) (a .client) (now (a .buffer)) t (l .before .before .before .before .before .if1 .left) (l .before .before .before .before .if2 .left) (omega (arith, l .before .before .before .if3 .left)) (rw (offers-next t (l .loop .at) (omega arith)) at (l .loop .inv .3)) (offer-bad (now (a .buffer)) _ (sym (c .before .before .examine-offer .ensures) ∙ c .enum-told .given .1))
+    choose-bad (a .mode) (a .client) (now (a .buffer)) t (l .before .before .before .before .before .if1 .left) (l .before .before .before .before .if2 .left) (omega (arith, l .before .before .before .if3 .left)) (rw (offers-next t (l .loop .at) (omega arith)) at (l .loop .inv .3)) (offer-bad (now (a .buffer)) _ (rw (c .before .before .examine-offer .ensures) at (c .if4 .taken)))
 
 take-requires : tie.Need-take-requires Inv-loop μ-loop
 take-requires c κs =
-    let l = c .before .before .before .before .before .before in
+    let l = c .before .before .before .before .before in
     omega (arith, l .loop .inv .2, l .loop .inv .1)
 
 add-at : tie.Need-add-at Inv-loop μ-loop
@@ -110,17 +104,18 @@ loop-less c = search needs
 
 loop-again : tie.Need-loop-again Inv-loop μ-loop
 loop-again c =
-    let l = c .before .before .before .before .before .before .before in
+    let l = c .before .before .before .before .before .before in
     let s = l .before .before .before .before .before .before .before .before in
     let a = s .args in
     let t = now (a .offers) in
-    let e = offer-fit (now (a .buffer)) _ (sym (c .before .before .before .before .examine-offer .ensures) ∙ c .before .before .examined .given .1) in
+    let x = c .before .before .before .examine-offer in
+    let e = offer-fit (now (a .buffer)) _ (rw (x .ensures) at (c .before .if4 .left)) in
     let next = offers-next t (l .loop .at) (omega arith) in (
       omega arith,
       omega arith,
-      rw (c .take .ensures) (omega (arith, taken-left (l .before .before .mode-meant .result) (a .client) (l .loop .best) (l .loop .at / 17) (c .before .before .examined .given .0 .0), l .loop .inv .2)),
+      rw (c .take .ensures) (omega (arith, taken-left (l .before .before .mode-meant .result) (a .client) (l .loop .best) (l .loop .at / 17) (x .result), l .loop .inv .2)),
       past-next (rw next at (l .loop .inv .3)) (e .0) (omega arith),
-      taken-offer (l .before .before .mode-meant .result) (a .client) (now (a .buffer)) (l .loop .best) (l .loop .at / 17) (l .loop .inv .4) next (e .1) (c .take .ensures) (omega arith),
+      taken-offer (l .before .before .mode-meant .result) (a .client) (now (a .buffer)) (l .loop .best) (l .loop .at / 17) (l .loop .inv .4) next (x .ensures ∙ e .1) (c .take .ensures) (omega arith),
     )
 
 returns-5 : tie.Need-returns-5 Inv-loop μ-loop
@@ -133,7 +128,7 @@ returns-5 c =
     let gone = offers-end t (l .loop .at) (omega arith) in
     let best = taken-end (l .before .before .mode-meant .result) (a .client) (now (a .buffer)) (l .loop .best) (l .loop .at / 17) (l .loop .inv .4) gone in
     choose-none (a .mode) (a .client) (now (a .buffer)) t (l .before .before .before .before .before .if1 .left) (l .before .before .before .before .if2 .left) (omega (arith, l .before .before .before .if3 .left)) (rw gone at (l .loop .inv .3))
-    (rw (l .before .before .mode-meant .ensures) at (taken-none (l .before .before .mode-meant .result) (a .client) (map (candidate (now (a .buffer))) (offersOf t)) (ap (λ (b : Best). b .left) (sym best) ∙ c .if4 .taken)))
+    (rw (l .before .before .mode-meant .ensures) at (taken-none (l .before .before .mode-meant .result) (a .client) (map (candidate (now (a .buffer))) (offersOf t)) (ap (λ (b : Best). b .left) (sym best) ∙ c .if5 .taken)))
 
 returns-6 : tie.Need-returns-6 Inv-loop μ-loop
 unfolding toldChosen
@@ -144,7 +139,7 @@ returns-6 c =
     let t = now (a .offers) in
     let gone = offers-end t (l .loop .at) (omega arith) in
     let best = taken-end (l .before .before .mode-meant .result) (a .client) (now (a .buffer)) (l .loop .best) (l .loop .at / 17) (l .loop .inv .4) gone in
-    let some = rw (l .before .before .mode-meant .ensures) at (taken-some (l .before .before .mode-meant .result) (a .client) (map (candidate (now (a .buffer))) (offersOf t)) best (c .if4 .left)) in
+    let some = rw (l .before .before .mode-meant .ensures) at (taken-some (l .before .before .mode-meant .result) (a .client) (map (candidate (now (a .buffer))) (offersOf t)) best (c .if5 .left)) in
     choose-some (a .mode) (a .client) (now (a .buffer)) t (l .before .before .before .before .before .if1 .left) (l .before .before .before .before .if2 .left) (omega (arith, l .before .before .before .if3 .left)) (rw gone at (l .loop .inv .3)) (some .0) (some .1)
 
 pub choose-spec : {M : Type 1} → statement M
@@ -166,8 +161,6 @@ choose-spec =
     part-examine-offer-start
     part-examine-offer-end
     examine-offer-requires
-    enum-known-examined
-    enum-told
     returns-4
     take-requires
     add-at

@@ -1,35 +1,125 @@
+use mathlib.Core.Path.{sym, _∙_}
+use borrow.Author.Tests.{not-true, not-false}
 use denote.Ref.{now}
-use Rattle.rules.specs.Receipt.{receiptVerdict}
-use Rattle.policy.proofs.Rooms.{judged-sound, judged-leaves}
+use Rattle.rules.specs.Answers.{toldWritten}
+use Rattle.rules.specs.Attributes.{attributes}
+use Rattle.rules.specs.Receipt.{receiptResult}
+use Rattle.rules.specs.declared.Refusal.the-variants.{Ineligible}
+use Rattle.policy.specs.Plan.{toldTag}
+use Rattle.policy.proofs.Readings.{bad-setting, bad-length, read-fault, read-clean, receipt-found}
+use Rattle.policy.proofs.Verdicts.{rule-some, rule-none, receipt-decided}
+use Rattle.policy.proofs.Rooms.{leaves-refused, leaves-stored}
 use borrow.Author.Needs.{needs}
 use Rattle.policy.proofs.receive.Statement.{statement}
 use Rattle.policy.proofs.receive.Tie as tie
 use Rattle.policy.proofs.receive.Reads as reads
 use Rattle.policy.proofs.receive.Lts as lts
-use Rattle.policy.proofs.carry_out.Reads as carry-out-reads
-use Rattle.policy.proofs.receipt_verdict.Reads as receipt-verdict-reads
+use Rattle.attributes.proofs.otc_as.Reads as otc-as-reads
+use Rattle.attributes.proofs.read.Reads as read-reads
+use Rattle.attributes.proofs.value.Reads as value-reads
+use Rattle.policy.proofs.judge.receipt_rule.Reads as receipt-rule-reads
+use Rattle.policy.proofs.judge.received_otc.Reads as received-otc-reads
+use Rattle.policy.proofs.judge.session_ok.Reads as session-ok-reads
+use Rattle.policy.proofs.judge.size_ok.Reads as size-ok-reads
+use Rattle.policy.proofs.store.Reads as store-reads
 
--- src/lib.rt:130:9
-receipt-verdict-requires : tie.Need-receipt-verdict-requires
-receipt-verdict-requires c κs = search needs
+-- src/lib.rt:74:9
+session-ok-requires : tie.Need-session-ok-requires
+session-ok-requires c κs = search needs
 
--- src/lib.rt:131:5
-carry-out-requires : tie.Need-carry-out-requires
-carry-out-requires c κs =
+-- src/lib.rt:75:9
+returns : tie.Need-returns
+unfolding toldWritten
+returns c =
     let s = c .before .before .before .before in
     let b = now (s .args .block) in
-    judged-sound (receiptVerdict (s .args .session) b) b (c .before .receipt-verdict .result) (c .before .receipt-verdict .ensures)
+    leaves-refused (now (s .args .out)) (receipt-decided (s .args .session) b ∙ bad-setting b (sym (c .before .session-ok .ensures) ∙ not-true _ (c .if1 .taken)) _)
 
--- src/lib.rt:127:1
+-- src/lib.rt:77:9
+size-ok-requires : tie.Need-size-ok-requires
+size-ok-requires c κs = search needs
+
+-- src/lib.rt:78:9
+returns-2 : tie.Need-returns-2
+unfolding toldWritten
+returns-2 c =
+    let s = c .before .before .before .before .before .before in
+    let b = now (s .args .block) in
+    leaves-refused (now (s .args .out)) (receipt-decided (s .args .session) b ∙ bad-length b (sym (c .before .before .before .session-ok .ensures) ∙ not-false _ (c .before .before .if1 .left)) (sym (c .before .size-ok .ensures) ∙ not-true _ (c .if2 .taken)) _)
+
+-- src/lib.rt:80:9
+read-requires : tie.Need-read-requires
+read-requires c κs = search needs
+
+-- src/lib.rt:83:9
+returns-3 : tie.Need-returns-3
+unfolding toldWritten
+returns-3 c =
+    let s = c .before .before .before .before .before .before .before .before in
+    let b = now (s .args .block) in
+    leaves-refused (now (s .args .out)) (receipt-decided (s .args .session) b ∙ read-fault b (sym (c .before .before .before .before .before .session-ok .ensures) ∙ not-false _ (c .before .before .before .before .if1 .left)) (sym (c .before .before .before .size-ok .ensures) ∙ not-false _ (c .before .before .if2 .left)) (c .before .read .ensures) (c .if3 .taken) _)
+
+-- src/lib.rt:87:22
+value-requires : tie.Need-value-requires
+value-requires c κs = search needs
+
+-- src/lib.rt:87:9
+otc-as-requires : tie.Need-otc-as-requires
+otc-as-requires c κs = search needs
+
+-- src/lib.rt:88:9
+receipt-rule-requires : tie.Need-receipt-rule-requires
+receipt-rule-requires c κs = search needs
+
+-- src/lib.rt:90:9
+returns-4 : tie.Need-returns-4
+unfolding toldWritten
+returns-4 c =
+    let s = c .before .before .before .before .before .before .before .before .before .before .before .before .before in
+    let b = now (s .args .block) in
+    let w = read-clean b (sym (c .before .before .before .before .before .before .before .before .before .before .session-ok .ensures) ∙ not-false _ (c .before .before .before .before .before .before .before .before .before .if1 .left)) (sym (c .before .before .before .before .before .before .before .before .size-ok .ensures) ∙ not-false _ (c .before .before .before .before .before .before .before .if2 .left)) (c .before .before .before .before .before .before .read .ensures) (c .before .before .before .before .before .if3 .left) in
+    leaves-refused (now (s .args .out)) (receipt-decided (s .args .session) b ∙ w .decides _ ∙ rule-some (λ r. Ineligible r) (receiptResult (s .args .session) (attributes b)) (receipt-found (s .args .session) w (c .before .before .before .value .ensures) (c .before .before .otc-as .ensures) (c .before .receipt-rule .ensures .0)) (c .if4 .taken))
+
+-- src/lib.rt:92:9
+received-otc-requires : tie.Need-received-otc-requires
+received-otc-requires c κs = (sym (c .before .before .before .before .before .before .before .before .before .before .session-ok .ensures) ∙ not-false _ (c .before .before .before .before .before .before .before .before .before .if1 .left))
+
+-- src/lib.rt:93:5
+store-requires : tie.Need-store-requires
+store-requires c κs =
+    let s = c .before .before .before .before .before .before .before .before .before .before .before .before .before .before .before in
+    let b = now (s .args .block) in
+    let w = read-clean b (sym (c .before .before .before .before .before .before .before .before .before .before .before .before .session-ok .ensures) ∙ not-false _ (c .before .before .before .before .before .before .before .before .before .before .before .if1 .left)) (sym (c .before .before .before .before .before .before .before .before .before .before .size-ok .ensures) ∙ not-false _ (c .before .before .before .before .before .before .before .before .before .if2 .left)) (c .before .before .before .before .before .before .before .before .read .ensures) (c .before .before .before .before .before .before .before .if3 .left) in
+    (w .good, w .is, w .small)
+
+-- src/lib.rt:71:1
 same-length : tie.Need-same-length
 same-length c = search needs
 
--- src/lib.rt:127:1
-returns : tie.Need-returns
-returns c =
-    let s = c .before .before .before .before .before .before .before in
+-- src/lib.rt:71:1
+returns-5 : tie.Need-returns-5
+unfolding toldWritten receiptResult toldTag
+returns-5 c =
+    let s = c .before .before .before .before .before .before .before .before .before .before .before .before .before .before .before .before .before .before in
     let b = now (s .args .block) in
-    judged-leaves (receiptVerdict (s .args .session) b) b (c .before .before .before .before .receipt-verdict .result) (c .before .before .before .before .receipt-verdict .ensures) (c .before .before .carry-out .ensures)
+    let w = read-clean b (sym (c .before .before .before .before .before .before .before .before .before .before .before .before .before .before .before .session-ok .ensures) ∙ not-false _ (c .before .before .before .before .before .before .before .before .before .before .before .before .before .before .if1 .left)) (sym (c .before .before .before .before .before .before .before .before .before .before .before .before .before .size-ok .ensures) ∙ not-false _ (c .before .before .before .before .before .before .before .before .before .before .before .before .if2 .left)) (c .before .before .before .before .before .before .before .before .before .before .before .read .ensures) (c .before .before .before .before .before .before .before .before .before .before .if3 .left) in
+    leaves-stored (receipt-decided (s .args .session) b ∙ w .decides _ ∙ rule-none (λ r. Ineligible r) (receiptResult (s .args .session) (attributes b)) ((receipt-found (s .args .session) w (c .before .before .before .before .before .before .before .before .value .ensures) (c .before .before .before .before .before .before .before .otc-as .ensures) (c .before .before .before .before .before .before .receipt-rule .ensures .0)) ∙ c .before .before .before .before .before .if4 .left)) (rw (c .before .before .before .before .received-otc .ensures) at (c .before .before .store .ensures))
 
 pub receive-spec : {M : Type 1} → statement M
-receive-spec = tie.close (tie.spec receipt-verdict-requires carry-out-requires same-length returns)
+receive-spec =
+    tie.close
+    (tie.spec
+    session-ok-requires
+    returns
+    size-ok-requires
+    returns-2
+    read-requires
+    returns-3
+    value-requires
+    otc-as-requires
+    receipt-rule-requires
+    returns-4
+    received-otc-requires
+    store-requires
+    same-length
+    returns-5)

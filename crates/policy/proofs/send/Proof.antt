@@ -1,35 +1,123 @@
+use mathlib.Core.Path.{sym, _∙_}
+use mathlib.Core.Bool.{_&&_}
+use borrow.Author.Tests.{not-true, not-false}
 use denote.Ref.{now}
-use Rattle.rules.specs.Sending.{sendingVerdict}
-use Rattle.policy.proofs.Rooms.{judged-sound, judged-leaves}
+use Rattle.rules.specs.Answers.{toldWritten}
+use Rattle.rules.specs.Settings.{sessionOk, sourceOk, stateOk}
+use Rattle.rules.specs.Attributes.{attributes}
+use Rattle.rules.specs.Sending.{sendingResult}
+use Rattle.rules.specs.declared.Refusal.the-variants.{Withheld}
+use Rattle.rules.proofs.Roles.{and-left}
+use Rattle.policy.proofs.Readings.{bad-setting, bad-length, read-fault, read-clean, sending-found}
+use Rattle.policy.proofs.Verdicts.{rule-some, rule-none, sending-decided}
+use Rattle.policy.proofs.Rooms.{leaves-refused, leaves-stored}
 use borrow.Author.Needs.{needs}
 use Rattle.policy.proofs.send.Statement.{statement}
 use Rattle.policy.proofs.send.Tie as tie
 use Rattle.policy.proofs.send.Reads as reads
 use Rattle.policy.proofs.send.Lts as lts
-use Rattle.policy.proofs.carry_out.Reads as carry-out-reads
-use Rattle.policy.proofs.sending_verdict.Reads as sending-verdict-reads
+use Rattle.attributes.proofs.read.Reads as read-reads
+use Rattle.policy.proofs.judge.sending_ok.Reads as sending-ok-reads
+use Rattle.policy.proofs.judge.sending_rule.Reads as sending-rule-reads
+use Rattle.policy.proofs.judge.sent_otc.Reads as sent-otc-reads
+use Rattle.policy.proofs.judge.sent_tag.Reads as sent-tag-reads
+use Rattle.policy.proofs.judge.size_ok.Reads as size-ok-reads
+use Rattle.policy.proofs.store.Reads as store-reads
 
--- src/lib.rt:138:9
-sending-verdict-requires : tie.Need-sending-verdict-requires
-sending-verdict-requires c κs = search needs
+-- src/lib.rt:100:9
+sending-ok-requires : tie.Need-sending-ok-requires
+sending-ok-requires c κs = search needs
 
--- src/lib.rt:139:5
-carry-out-requires : tie.Need-carry-out-requires
-carry-out-requires c κs =
+-- src/lib.rt:101:9
+returns : tie.Need-returns
+unfolding toldWritten
+returns c =
     let s = c .before .before .before .before in
     let b = now (s .args .block) in
-    judged-sound (sendingVerdict (s .args .session) (s .args .source) (s .args .state) b) b (c .before .sending-verdict .result) (c .before .sending-verdict .ensures)
+    leaves-refused (now (s .args .out)) (sending-decided (s .args .session) (s .args .source) (s .args .state) b ∙ bad-setting b (sym (c .before .sending-ok .ensures) ∙ not-true _ (c .if1 .taken)) _)
 
--- src/lib.rt:135:1
+-- src/lib.rt:103:9
+size-ok-requires : tie.Need-size-ok-requires
+size-ok-requires c κs = search needs
+
+-- src/lib.rt:104:9
+returns-2 : tie.Need-returns-2
+unfolding toldWritten
+returns-2 c =
+    let s = c .before .before .before .before .before .before in
+    let b = now (s .args .block) in
+    leaves-refused (now (s .args .out)) (sending-decided (s .args .session) (s .args .source) (s .args .state) b ∙ bad-length b (sym (c .before .before .before .sending-ok .ensures) ∙ not-false _ (c .before .before .if1 .left)) (sym (c .before .size-ok .ensures) ∙ not-true _ (c .if2 .taken)) _)
+
+-- src/lib.rt:106:9
+read-requires : tie.Need-read-requires
+read-requires c κs = search needs
+
+-- src/lib.rt:109:9
+returns-3 : tie.Need-returns-3
+unfolding toldWritten
+returns-3 c =
+    let s = c .before .before .before .before .before .before .before .before in
+    let b = now (s .args .block) in
+    leaves-refused (now (s .args .out)) (sending-decided (s .args .session) (s .args .source) (s .args .state) b ∙ read-fault b (sym (c .before .before .before .before .before .sending-ok .ensures) ∙ not-false _ (c .before .before .before .before .if1 .left)) (sym (c .before .before .before .size-ok .ensures) ∙ not-false _ (c .before .before .if2 .left)) (c .before .read .ensures) (c .if3 .taken) _)
+
+-- src/lib.rt:113:9
+sending-rule-requires : tie.Need-sending-rule-requires
+sending-rule-requires c κs = search needs
+
+-- src/lib.rt:115:9
+returns-4 : tie.Need-returns-4
+unfolding toldWritten
+returns-4 c =
+    let s = c .before .before .before .before .before .before .before .before .before .before .before in
+    let b = now (s .args .block) in
+    let w = read-clean b (sym (c .before .before .before .before .before .before .before .before .sending-ok .ensures) ∙ not-false _ (c .before .before .before .before .before .before .before .if1 .left)) (sym (c .before .before .before .before .before .before .size-ok .ensures) ∙ not-false _ (c .before .before .before .before .before .if2 .left)) (c .before .before .before .before .read .ensures) (c .before .before .before .if3 .left) in
+    leaves-refused (now (s .args .out)) (sending-decided (s .args .session) (s .args .source) (s .args .state) b ∙ w .decides _ ∙ rule-some (λ r. Withheld r) (sendingResult (s .args .session) (s .args .source) (s .args .state) (attributes b)) (sending-found (s .args .session) w (s .args .source) (s .args .state) (c .before .sending-rule .ensures .0)) (c .if4 .taken))
+
+-- src/lib.rt:117:9
+sent-tag-requires : tie.Need-sent-tag-requires
+sent-tag-requires c κs = search needs
+
+-- src/lib.rt:118:9
+sent-otc-requires : tie.Need-sent-otc-requires
+sent-otc-requires c κs =
+    let a = c .before .before .before .before .before .before .before .before .before .before .before .before .args in
+    and-left (sessionOk (a .session)) (sourceOk (a .source)) (and-left (sessionOk (a .session) && sourceOk (a .source)) (stateOk (a .state)) (sym (c .before .before .before .before .before .before .before .before .before .sending-ok .ensures) ∙ not-false _ (c .before .before .before .before .before .before .before .before .if1 .left)))
+
+-- src/lib.rt:119:5
+store-requires : tie.Need-store-requires
+store-requires c κs =
+    let s = c .before .before .before .before .before .before .before .before .before .before .before .before .before .before in
+    let b = now (s .args .block) in
+    let w = read-clean b (sym (c .before .before .before .before .before .before .before .before .before .before .before .sending-ok .ensures) ∙ not-false _ (c .before .before .before .before .before .before .before .before .before .before .if1 .left)) (sym (c .before .before .before .before .before .before .before .before .before .size-ok .ensures) ∙ not-false _ (c .before .before .before .before .before .before .before .before .if2 .left)) (c .before .before .before .before .before .before .before .read .ensures) (c .before .before .before .before .before .before .if3 .left) in
+    (w .good, w .is, w .small)
+
+-- src/lib.rt:97:1
 same-length : tie.Need-same-length
 same-length c = search needs
 
--- src/lib.rt:135:1
-returns : tie.Need-returns
-returns c =
-    let s = c .before .before .before .before .before .before .before in
+-- src/lib.rt:97:1
+returns-5 : tie.Need-returns-5
+unfolding toldWritten sendingResult
+returns-5 c =
+    let s = c .before .before .before .before .before .before .before .before .before .before .before .before .before .before .before .before .before in
     let b = now (s .args .block) in
-    judged-leaves (sendingVerdict (s .args .session) (s .args .source) (s .args .state) b) b (c .before .before .before .before .sending-verdict .result) (c .before .before .before .before .sending-verdict .ensures) (c .before .before .carry-out .ensures)
+    let w = read-clean b (sym (c .before .before .before .before .before .before .before .before .before .before .before .before .before .before .sending-ok .ensures) ∙ not-false _ (c .before .before .before .before .before .before .before .before .before .before .before .before .before .if1 .left)) (sym (c .before .before .before .before .before .before .before .before .before .before .before .before .size-ok .ensures) ∙ not-false _ (c .before .before .before .before .before .before .before .before .before .before .before .if2 .left)) (c .before .before .before .before .before .before .before .before .before .before .read .ensures) (c .before .before .before .before .before .before .before .before .before .if3 .left) in
+    leaves-stored (sending-decided (s .args .session) (s .args .source) (s .args .state) b ∙ w .decides _ ∙ rule-none (λ r. Withheld r) (sendingResult (s .args .session) (s .args .source) (s .args .state) (attributes b)) ((sending-found (s .args .session) w (s .args .source) (s .args .state) (c .before .before .before .before .before .before .before .sending-rule .ensures .0)) ∙ c .before .before .before .before .before .before .if4 .left)) (rw (← c .before .before .before .before .before .sent-tag .ensures, ← c .before .before .before .before .sent-otc .ensures) (c .before .before .store .ensures))
 
 pub send-spec : {M : Type 1} → statement M
-send-spec = tie.close (tie.spec sending-verdict-requires carry-out-requires same-length returns)
+send-spec =
+    tie.close
+    (tie.spec
+    sending-ok-requires
+    returns
+    size-ok-requires
+    returns-2
+    read-requires
+    returns-3
+    sending-rule-requires
+    returns-4
+    sent-tag-requires
+    sent-otc-requires
+    store-requires
+    same-length
+    returns-5)

@@ -1,4 +1,5 @@
 -- `examine_offer` meets its contract.
+use mathlib.Core.Path.{_∙_}
 use denote.Ref.{now}
 use Rattle.choice.proofs.Examining.{offer-beyond, offer-within}
 use borrow.Author.Needs.{needs}
@@ -38,10 +39,13 @@ cast-size c = search needs
 add-if1 : tie.Need-add-if1
 add-if1 c = search needs
 
+unfit-requires : tie.Need-unfit-requires
+unfit-requires c κs = search needs
+
 returns : tie.Need-returns
 returns c =
-    let a = c .before .before .before .before .before .before .before .args in
-    offer-beyond (now (a .buffer)) (now (a .bytes)) (c .before .before .before .number4 .ensures) (c .before .number42 .ensures) (c .if1 .taken)
+    let a = c .before .before .before .before .before .before .before .before .args in
+    c .unfit .ensures ∙ offer-beyond (now (a .buffer)) (now (a .bytes)) (c .before .before .before .before .number4 .ensures) (c .before .before .number42 .ensures) (c .before .if1 .taken)
 
 add-block : tie.Need-add-block
 add-block c = search needs
@@ -105,6 +109,7 @@ examine-offer-spec =
     number4-requires-2
     cast-size
     add-if1
+    unfit-requires
     returns
     add-block
     sub-block
