@@ -13,8 +13,10 @@ use Rattle.rules.specs.Settings.{blockMax, stateOk}
 use Rattle.rules.specs.Attributes.{attributes, valueOf, has, hasOtc, segments, originType, asPathType, otcType}
 use Rattle.rules.specs.Choice.{Candidate, Offer, candidate, badCandidate, badOffer, pathLength}
 use Rattle.octets.proofs.Slices.{part-is}
-use Rattle.attributes.specs.Layout.{layout, Read, valueAt}
+use Rattle.attributes.specs.Layout.{layout, reading, valueAt}
+use Rattle.attributes.specs.declared.Layout.{Layout}
 use Rattle.attributes.specs.declared.Reading.{Reading}
+use Rattle.attributes.specs.declared.Reading.the-variants.{Clean, Fault}
 use Rattle.attributes.proofs.Found.{value-of, has-of, fault-read, clean-read}
 use Rattle.attributes.proofs.Positions.{items-next, items-end}
 use Rattle.choice.specs.declared.entry.Entry.{Entry}
@@ -50,18 +52,18 @@ module _ (c : Candidate) where
     unfolding examined badCandidate stateOk
     examined-state s = rw (le-ltb blockMax (length (c .block)) h, lt-leb (c .state) 3 s) refl
 
-    module _ (s : c .state ≤ 3) {r : Reading} (p : Read (c .block) r) where
-      pub examined-fault : (r .fault ≡ 0 → ⊥) → unfitEntry ≡ examined c
+    module _ (s : c .state ≤ 3) {r : Reading} (p : r ≡ reading (c .block)) where
+      pub examined-fault : {f : ℕ} → r ≡ Fault f → unfitEntry ≡ examined c
       unfolding examined badCandidate stateOk
-      examined-fault q = rw (le-ltb blockMax (length (c .block)) h, le-leb (c .state) 3 s, fault-read p q .0) refl
+      examined-fault q = rw (le-ltb blockMax (length (c .block)) h, le-leb (c .state) 3 s, fault-read (c .block) p q .0) refl
 
-      pub examined-clean : {path origin : List ℕ} {n o : ℕ} → r .fault ≡ 0
-          → path ≡ valueAt (r .layout .«as_path») (c .block) → n ≡ pathLength (segments path)
-          → origin ≡ valueAt (r .layout .origin) (c .block) → o ≡ getD origin 0 0
-          → record { fit = 1; otc = boolByte (ltb (r .layout .otc) (length (c .block))); state = c .state; path = n; origin = o; identifier = c .identifier; address = c .address } ≡ examined c
+      pub examined-clean : {l : Layout} {path origin : List ℕ} {n o : ℕ} → r ≡ Clean l
+          → path ≡ valueAt (l .«as_path») (c .block) → n ≡ pathLength (segments path)
+          → origin ≡ valueAt (l .origin) (c .block) → o ≡ getD origin 0 0
+          → record { fit = 1; otc = boolByte (ltb (l .otc) (length (c .block))); state = c .state; path = n; origin = o; identifier = c .identifier; address = c .address } ≡ examined c
       unfolding examined badCandidate stateOk entryOf layout hasOtc
-      examined-clean {path} {origin} q e u f v =
-          let k = clean-read p q in
+      examined-clean {l} {path} {origin} q e u f v =
+          let k = clean-read (c .block) p q in
           let i : path ≡ valueOf asPathType (attributes (c .block)) = e ∙ rw (k .1) (value-of asPathType (c .block) (k .0)) in
           let j : origin ≡ valueOf originType (attributes (c .block)) = f ∙ rw (k .1) (value-of originType (c .block) (k .0)) in
           rw (le-ltb blockMax (length (c .block)) h, le-leb (c .state) 3 s, k .0, u, i, v, j, k .1, ← has-of otcType (c .block) (k .0), byte-is (has otcType (attributes (c .block)))) refl

@@ -1,4 +1,5 @@
 // A candidate, read once: all that choosing asks of it.
+use attributes::Reading;
 use attributes::as_path::path_length;
 use attributes::read;
 use attributes::value;
@@ -47,10 +48,9 @@ pub fn examine(block: &[u8], state: u8, identifier: u32, address: u32) -> Entry
         return unfit();
     }
     let reading = read(block);
-    if reading.fault != 0 {
+    let Reading::Clean(layout) = reading else {
         return unfit();
-    }
-    let layout = reading.layout;
+    };
     Entry {
         fit: 1,
         otc: (layout.otc < block.len()) as usize,

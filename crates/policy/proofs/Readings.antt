@@ -13,9 +13,10 @@ use Rattle.rules.specs.Settings.{blockMax}
 use Rattle.rules.specs.Attributes.{Attribute, attributes, fault, readable, hasOtc, otcAs, valueOf, otcType}
 use Rattle.rules.specs.declared.Session.{Session}
 use Rattle.rules.specs.declared.Refusal.the-variants.{Malformed, BadSetting, BadLength}
-use Rattle.attributes.specs.Layout.{layout, Read, valueAt}
+use Rattle.attributes.specs.Layout.{layout, reading, valueAt}
 use Rattle.attributes.specs.declared.Layout.{Layout}
 use Rattle.attributes.specs.declared.Reading.{Reading}
+use Rattle.attributes.specs.declared.Reading.the-variants.{Clean, Fault}
 use Rattle.attributes.proofs.Found.{value-of, has-of, otc-as-of, fault-read, clean-read}
 use Rattle.policy.specs.Judge.{receiptRule, sendingRule}
 use Rattle.policy.specs.Checks.{checkedFirst, Passed}
@@ -31,20 +32,20 @@ module _ (b : List ℕ) {ok : Bool} where
     unfolding checkedFirst
     bad-length h rules = rw (e, lt-ltb blockMax (length b) (leb-false (length b) blockMax h)) refl
 
-    module _ (h : leb (length b) blockMax ≡ true) {r : Reading} (p : Read b r) where
+    module _ (h : leb (length b) blockMax ≡ true) {r : Reading} (p : r ≡ reading b) where
       small : length b ≤ blockMax
       small = leb-true (length b) blockMax h
 
-      pub read-fault : (r .fault ≡ 0 → ⊥) → (rules : Answer (List Attribute)) → checkedFirst ok b rules ≡ refused (Malformed (r .fault))
+      pub read-fault : {f : ℕ} → r ≡ Fault f → (rules : Answer (List Attribute)) → checkedFirst ok b rules ≡ refused (Malformed f)
       unfolding checkedFirst readable
       read-fault n rules =
-          let k = fault-read p n in
+          let k = fault-read b p n in
           rw (e, le-ltb blockMax (length b) small, k .0, k .1) refl
 
-      pub read-clean : r .fault ≡ 0 → Passed ok b (r .layout)
+      pub read-clean : {l : Layout} → r ≡ Clean l → Passed ok b l
       unfolding checkedFirst readable
       read-clean z =
-          let k = clean-read p z in
+          let k = clean-read b p z in
           record { okay = e; small = small; good = k .0; is = k .1; decides = λ rules. rw (e, le-ltb blockMax (length b) small, k .0) refl }
 
 -- The rule of receipt, and of sending, that the code finds is that of the attributes.

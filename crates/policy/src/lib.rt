@@ -6,6 +6,7 @@ pub mod planner;
 pub mod writer;
 
 use attributes::Layout;
+use attributes::Reading;
 use attributes::otc_as;
 use attributes::read;
 use attributes::value;
@@ -78,19 +79,21 @@ pub fn receive(session: Session, block: &[u8], out: &mut [u8]) -> Written
         return Written::Refused(Refusal::BadLength);
     }
     let reading = read(block);
-    let fault = reading.fault;
-    if fault != 0 {
-        return Written::Refused(Refusal::Malformed(fault));
+    match reading {
+        Reading::Fault(fault) => {
+            return Written::Refused(Refusal::Malformed(fault));
+        }
+        Reading::Clean(layout) => {
+            let place = layout.otc;
+            let otc = otc_as(value(block, place));
+            let rule = receipt_rule(session, place < block.len(), otc);
+            if rule != 0 {
+                return Written::Refused(Refusal::Ineligible(rule));
+            }
+            let asn = received_otc(session);
+            store(block, layout, 3, asn, out)
+        }
     }
-    let layout = reading.layout;
-    let place = layout.otc;
-    let otc = otc_as(value(block, place));
-    let rule = receipt_rule(session, place < block.len(), otc);
-    if rule != 0 {
-        return Written::Refused(Refusal::Ineligible(rule));
-    }
-    let asn = received_otc(session);
-    store(block, layout, 3, asn, out)
 }
 
 // Sending (RFC 9234 section 5, egress): the route as it goes to the neighbour, or why it is withheld.
@@ -104,17 +107,19 @@ pub fn send(session: Session, source: u8, state: u8, block: &[u8], out: &mut [u8
         return Written::Refused(Refusal::BadLength);
     }
     let reading = read(block);
-    let fault = reading.fault;
-    if fault != 0 {
-        return Written::Refused(Refusal::Malformed(fault));
+    match reading {
+        Reading::Fault(fault) => {
+            return Written::Refused(Refusal::Malformed(fault));
+        }
+        Reading::Clean(layout) => {
+            let place = layout.otc;
+            let rule = sending_rule(session, source, state, place < block.len());
+            if rule != 0 {
+                return Written::Refused(Refusal::Withheld(rule));
+            }
+            let tag = sent_tag(session, source, state);
+            let asn = sent_otc(session, source, state);
+            store(block, layout, tag, asn, out)
+        }
     }
-    let layout = reading.layout;
-    let place = layout.otc;
-    let rule = sending_rule(session, source, state, place < block.len());
-    if rule != 0 {
-        return Written::Refused(Refusal::Withheld(rule));
-    }
-    let tag = sent_tag(session, source, state);
-    let asn = sent_otc(session, source, state);
-    store(block, layout, tag, asn, out)
 }

@@ -23,11 +23,11 @@ use Rattle.policy.proofs.judge.session_ok.Reads as session-ok-reads
 use Rattle.policy.proofs.judge.size_ok.Reads as size-ok-reads
 use Rattle.policy.proofs.store.Reads as store-reads
 
--- src/lib.rt:74:9
+-- src/lib.rt:75:9
 session-ok-requires : tie.Need-session-ok-requires
 session-ok-requires c κs = search needs
 
--- src/lib.rt:75:9
+-- src/lib.rt:76:9
 returns : tie.Need-returns
 unfolding toldWritten
 returns c =
@@ -35,11 +35,11 @@ returns c =
     let b = now (s .args .block) in
     leaves-refused (now (s .args .out)) (receipt-decided (s .args .session) b ∙ bad-setting b (sym (c .before .session-ok .ensures) ∙ not-true _ (c .if1 .taken)) _)
 
--- src/lib.rt:77:9
+-- src/lib.rt:78:9
 size-ok-requires : tie.Need-size-ok-requires
 size-ok-requires c κs = search needs
 
--- src/lib.rt:78:9
+-- src/lib.rt:79:9
 returns-2 : tie.Need-returns-2
 unfolding toldWritten
 returns-2 c =
@@ -47,63 +47,71 @@ returns-2 c =
     let b = now (s .args .block) in
     leaves-refused (now (s .args .out)) (receipt-decided (s .args .session) b ∙ bad-length b (sym (c .before .before .before .session-ok .ensures) ∙ not-false _ (c .before .before .if1 .left)) (sym (c .before .size-ok .ensures) ∙ not-true _ (c .if2 .taken)) _)
 
--- src/lib.rt:80:9
+-- src/lib.rt:81:9
 read-requires : tie.Need-read-requires
 read-requires c κs = search needs
 
--- src/lib.rt:83:9
+-- src/lib.rt:83:24
+enum-known-reading : tie.Need-enum-known-reading
+enum-known-reading c = search needs
+
+-- src/lib.rt:84:13
 returns-3 : tie.Need-returns-3
 unfolding toldWritten
 returns-3 c =
-    let s = c .before .before .before .before .before .before .before .before in
+    let s = c .before .before .before .before .before .before .before .before .before .before in
     let b = now (s .args .block) in
-    leaves-refused (now (s .args .out)) (receipt-decided (s .args .session) b ∙ read-fault b (sym (c .before .before .before .before .before .session-ok .ensures) ∙ not-false _ (c .before .before .before .before .if1 .left)) (sym (c .before .before .before .size-ok .ensures) ∙ not-false _ (c .before .before .if2 .left)) (c .before .read .ensures) (c .if3 .taken) _)
+    leaves-refused (now (s .args .out)) (receipt-decided (s .args .session) b ∙ read-fault b (sym (c .before .before .before .before .before .before .before .session-ok .ensures) ∙ not-false _ (c .before .before .before .before .before .before .if1 .left)) (sym (c .before .before .before .before .before .size-ok .ensures) ∙ not-false _ (c .before .before .before .before .if2 .left)) (c .before .before .before .read .ensures) (c .before .reading .given .1) _)
 
--- src/lib.rt:87:22
+-- src/lib.rt:86:24
+enum-known-reading-2 : tie.Need-enum-known-reading-2
+enum-known-reading-2 c = search needs
+
+-- src/lib.rt:88:30
 value-requires : tie.Need-value-requires
 value-requires c κs = search needs
 
--- src/lib.rt:87:9
+-- src/lib.rt:88:17
 otc-as-requires : tie.Need-otc-as-requires
 otc-as-requires c κs = search needs
 
--- src/lib.rt:88:9
+-- src/lib.rt:89:17
 receipt-rule-requires : tie.Need-receipt-rule-requires
 receipt-rule-requires c κs = search needs
 
--- src/lib.rt:90:9
+-- src/lib.rt:91:17
 returns-4 : tie.Need-returns-4
 unfolding toldWritten
 returns-4 c =
-    let s = c .before .before .before .before .before .before .before .before .before .before .before .before .before in
+    let s = c .before .before .before .before .before .before .before .before .before .before .before .before .before .before in
     let b = now (s .args .block) in
-    let w = read-clean b (sym (c .before .before .before .before .before .before .before .before .before .before .session-ok .ensures) ∙ not-false _ (c .before .before .before .before .before .before .before .before .before .if1 .left)) (sym (c .before .before .before .before .before .before .before .before .size-ok .ensures) ∙ not-false _ (c .before .before .before .before .before .before .before .if2 .left)) (c .before .before .before .before .before .before .read .ensures) (c .before .before .before .before .before .if3 .left) in
-    leaves-refused (now (s .args .out)) (receipt-decided (s .args .session) b ∙ w .decides _ ∙ rule-some (λ r. Ineligible r) (receiptResult (s .args .session) (attributes b)) (receipt-found (s .args .session) w (c .before .before .before .value .ensures) (c .before .before .otc-as .ensures) (c .before .receipt-rule .ensures .0)) (c .if4 .taken))
+    let w = read-clean b (sym (c .before .before .before .before .before .before .before .before .before .before .before .session-ok .ensures) ∙ not-false _ (c .before .before .before .before .before .before .before .before .before .before .if1 .left)) (sym (c .before .before .before .before .before .before .before .before .before .size-ok .ensures) ∙ not-false _ (c .before .before .before .before .before .before .before .before .if2 .left)) (c .before .before .before .before .before .before .before .read .ensures) (c .before .before .before .before .before .reading2 .given .1) in
+    leaves-refused (now (s .args .out)) (receipt-decided (s .args .session) b ∙ w .decides _ ∙ rule-some (λ r. Ineligible r) (receiptResult (s .args .session) (attributes b)) (receipt-found (s .args .session) w (c .before .before .before .value .ensures) (c .before .before .otc-as .ensures) (c .before .receipt-rule .ensures .0)) (c .if3 .taken))
 
--- src/lib.rt:92:9
+-- src/lib.rt:93:17
 received-otc-requires : tie.Need-received-otc-requires
-received-otc-requires c κs = (sym (c .before .before .before .before .before .before .before .before .before .before .session-ok .ensures) ∙ not-false _ (c .before .before .before .before .before .before .before .before .before .if1 .left))
+received-otc-requires c κs = (sym (c .before .before .before .before .before .before .before .before .before .before .before .session-ok .ensures) ∙ not-false _ (c .before .before .before .before .before .before .before .before .before .before .if1 .left))
 
--- src/lib.rt:93:5
+-- src/lib.rt:94:13
 store-requires : tie.Need-store-requires
 store-requires c κs =
-    let s = c .before .before .before .before .before .before .before .before .before .before .before .before .before .before .before in
+    let s = c .before .before .before .before .before .before .before .before .before .before .before .before .before .before .before .before in
     let b = now (s .args .block) in
-    let w = read-clean b (sym (c .before .before .before .before .before .before .before .before .before .before .before .before .session-ok .ensures) ∙ not-false _ (c .before .before .before .before .before .before .before .before .before .before .before .if1 .left)) (sym (c .before .before .before .before .before .before .before .before .before .before .size-ok .ensures) ∙ not-false _ (c .before .before .before .before .before .before .before .before .before .if2 .left)) (c .before .before .before .before .before .before .before .before .read .ensures) (c .before .before .before .before .before .before .before .if3 .left) in
+    let w = read-clean b (sym (c .before .before .before .before .before .before .before .before .before .before .before .before .before .session-ok .ensures) ∙ not-false _ (c .before .before .before .before .before .before .before .before .before .before .before .before .if1 .left)) (sym (c .before .before .before .before .before .before .before .before .before .before .before .size-ok .ensures) ∙ not-false _ (c .before .before .before .before .before .before .before .before .before .before .if2 .left)) (c .before .before .before .before .before .before .before .before .before .read .ensures) (c .before .before .before .before .before .before .before .reading2 .given .1) in
     (w .good, w .is, w .small)
 
--- src/lib.rt:71:1
+-- src/lib.rt:72:1
 same-length : tie.Need-same-length
 same-length c = search needs
 
--- src/lib.rt:71:1
+-- src/lib.rt:72:1
 returns-5 : tie.Need-returns-5
 unfolding toldWritten receiptResult toldTag
 returns-5 c =
-    let s = c .before .before .before .before .before .before .before .before .before .before .before .before .before .before .before .before .before .before in
+    let s = c .before .before .before .before .before .before .before .before .before .before .before .before .before .before .before .before .before .before .before in
     let b = now (s .args .block) in
-    let w = read-clean b (sym (c .before .before .before .before .before .before .before .before .before .before .before .before .before .before .before .session-ok .ensures) ∙ not-false _ (c .before .before .before .before .before .before .before .before .before .before .before .before .before .before .if1 .left)) (sym (c .before .before .before .before .before .before .before .before .before .before .before .before .before .size-ok .ensures) ∙ not-false _ (c .before .before .before .before .before .before .before .before .before .before .before .before .if2 .left)) (c .before .before .before .before .before .before .before .before .before .before .before .read .ensures) (c .before .before .before .before .before .before .before .before .before .before .if3 .left) in
-    leaves-stored (receipt-decided (s .args .session) b ∙ w .decides _ ∙ rule-none (λ r. Ineligible r) (receiptResult (s .args .session) (attributes b)) ((receipt-found (s .args .session) w (c .before .before .before .before .before .before .before .before .value .ensures) (c .before .before .before .before .before .before .before .otc-as .ensures) (c .before .before .before .before .before .before .receipt-rule .ensures .0)) ∙ c .before .before .before .before .before .if4 .left)) (rw (c .before .before .before .before .received-otc .ensures) at (c .before .before .store .ensures))
+    let w = read-clean b (sym (c .before .before .before .before .before .before .before .before .before .before .before .before .before .before .before .before .session-ok .ensures) ∙ not-false _ (c .before .before .before .before .before .before .before .before .before .before .before .before .before .before .before .if1 .left)) (sym (c .before .before .before .before .before .before .before .before .before .before .before .before .before .before .size-ok .ensures) ∙ not-false _ (c .before .before .before .before .before .before .before .before .before .before .before .before .before .if2 .left)) (c .before .before .before .before .before .before .before .before .before .before .before .before .read .ensures) (c .before .before .before .before .before .before .before .before .before .before .reading2 .given .1) in
+    leaves-stored (receipt-decided (s .args .session) b ∙ w .decides _ ∙ rule-none (λ r. Ineligible r) (receiptResult (s .args .session) (attributes b)) ((receipt-found (s .args .session) w (c .before .before .before .before .before .before .before .before .value .ensures) (c .before .before .before .before .before .before .before .otc-as .ensures) (c .before .before .before .before .before .before .receipt-rule .ensures .0)) ∙ c .before .before .before .before .before .if3 .left)) (rw (c .before .before .before .before .received-otc .ensures) at (c .before .before .store .ensures))
 
 pub receive-spec : {M : Type 1} → statement M
 receive-spec =
@@ -114,7 +122,9 @@ receive-spec =
     size-ok-requires
     returns-2
     read-requires
+    enum-known-reading
     returns-3
+    enum-known-reading-2
     value-requires
     otc-as-requires
     receipt-rule-requires

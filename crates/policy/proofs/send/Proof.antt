@@ -24,11 +24,11 @@ use Rattle.policy.proofs.judge.sent_tag.Reads as sent-tag-reads
 use Rattle.policy.proofs.judge.size_ok.Reads as size-ok-reads
 use Rattle.policy.proofs.store.Reads as store-reads
 
--- src/lib.rt:100:9
+-- src/lib.rt:103:9
 sending-ok-requires : tie.Need-sending-ok-requires
 sending-ok-requires c κs = search needs
 
--- src/lib.rt:101:9
+-- src/lib.rt:104:9
 returns : tie.Need-returns
 unfolding toldWritten
 returns c =
@@ -36,11 +36,11 @@ returns c =
     let b = now (s .args .block) in
     leaves-refused (now (s .args .out)) (sending-decided (s .args .session) (s .args .source) (s .args .state) b ∙ bad-setting b (sym (c .before .sending-ok .ensures) ∙ not-true _ (c .if1 .taken)) _)
 
--- src/lib.rt:103:9
+-- src/lib.rt:106:9
 size-ok-requires : tie.Need-size-ok-requires
 size-ok-requires c κs = search needs
 
--- src/lib.rt:104:9
+-- src/lib.rt:107:9
 returns-2 : tie.Need-returns-2
 unfolding toldWritten
 returns-2 c =
@@ -48,61 +48,69 @@ returns-2 c =
     let b = now (s .args .block) in
     leaves-refused (now (s .args .out)) (sending-decided (s .args .session) (s .args .source) (s .args .state) b ∙ bad-length b (sym (c .before .before .before .sending-ok .ensures) ∙ not-false _ (c .before .before .if1 .left)) (sym (c .before .size-ok .ensures) ∙ not-true _ (c .if2 .taken)) _)
 
--- src/lib.rt:106:9
+-- src/lib.rt:109:9
 read-requires : tie.Need-read-requires
 read-requires c κs = search needs
 
--- src/lib.rt:109:9
+-- src/lib.rt:111:24
+enum-known-reading : tie.Need-enum-known-reading
+enum-known-reading c = search needs
+
+-- src/lib.rt:112:13
 returns-3 : tie.Need-returns-3
 unfolding toldWritten
 returns-3 c =
-    let s = c .before .before .before .before .before .before .before .before in
+    let s = c .before .before .before .before .before .before .before .before .before .before in
     let b = now (s .args .block) in
-    leaves-refused (now (s .args .out)) (sending-decided (s .args .session) (s .args .source) (s .args .state) b ∙ read-fault b (sym (c .before .before .before .before .before .sending-ok .ensures) ∙ not-false _ (c .before .before .before .before .if1 .left)) (sym (c .before .before .before .size-ok .ensures) ∙ not-false _ (c .before .before .if2 .left)) (c .before .read .ensures) (c .if3 .taken) _)
+    leaves-refused (now (s .args .out)) (sending-decided (s .args .session) (s .args .source) (s .args .state) b ∙ read-fault b (sym (c .before .before .before .before .before .before .before .sending-ok .ensures) ∙ not-false _ (c .before .before .before .before .before .before .if1 .left)) (sym (c .before .before .before .before .before .size-ok .ensures) ∙ not-false _ (c .before .before .before .before .if2 .left)) (c .before .before .before .read .ensures) (c .before .reading .given .1) _)
 
--- src/lib.rt:113:9
+-- src/lib.rt:114:24
+enum-known-reading-2 : tie.Need-enum-known-reading-2
+enum-known-reading-2 c = search needs
+
+-- src/lib.rt:116:17
 sending-rule-requires : tie.Need-sending-rule-requires
 sending-rule-requires c κs = search needs
 
--- src/lib.rt:115:9
+-- src/lib.rt:118:17
 returns-4 : tie.Need-returns-4
 unfolding toldWritten
 returns-4 c =
-    let s = c .before .before .before .before .before .before .before .before .before .before .before in
+    let s = c .before .before .before .before .before .before .before .before .before .before .before .before in
     let b = now (s .args .block) in
-    let w = read-clean b (sym (c .before .before .before .before .before .before .before .before .sending-ok .ensures) ∙ not-false _ (c .before .before .before .before .before .before .before .if1 .left)) (sym (c .before .before .before .before .before .before .size-ok .ensures) ∙ not-false _ (c .before .before .before .before .before .if2 .left)) (c .before .before .before .before .read .ensures) (c .before .before .before .if3 .left) in
-    leaves-refused (now (s .args .out)) (sending-decided (s .args .session) (s .args .source) (s .args .state) b ∙ w .decides _ ∙ rule-some (λ r. Withheld r) (sendingResult (s .args .session) (s .args .source) (s .args .state) (attributes b)) (sending-found (s .args .session) w (s .args .source) (s .args .state) (c .before .sending-rule .ensures .0)) (c .if4 .taken))
+    let w = read-clean b (sym (c .before .before .before .before .before .before .before .before .before .sending-ok .ensures) ∙ not-false _ (c .before .before .before .before .before .before .before .before .if1 .left)) (sym (c .before .before .before .before .before .before .before .size-ok .ensures) ∙ not-false _ (c .before .before .before .before .before .before .if2 .left)) (c .before .before .before .before .before .read .ensures) (c .before .before .before .reading2 .given .1) in
+    leaves-refused (now (s .args .out)) (sending-decided (s .args .session) (s .args .source) (s .args .state) b ∙ w .decides _ ∙ rule-some (λ r. Withheld r) (sendingResult (s .args .session) (s .args .source) (s .args .state) (attributes b)) (sending-found (s .args .session) w (s .args .source) (s .args .state) (c .before .sending-rule .ensures .0)) (c .if3 .taken))
 
--- src/lib.rt:117:9
+-- src/lib.rt:120:17
 sent-tag-requires : tie.Need-sent-tag-requires
 sent-tag-requires c κs = search needs
 
--- src/lib.rt:118:9
+-- src/lib.rt:121:17
 sent-otc-requires : tie.Need-sent-otc-requires
 sent-otc-requires c κs =
-    let a = c .before .before .before .before .before .before .before .before .before .before .before .before .args in
-    and-left (sessionOk (a .session)) (sourceOk (a .source)) (and-left (sessionOk (a .session) && sourceOk (a .source)) (stateOk (a .state)) (sym (c .before .before .before .before .before .before .before .before .before .sending-ok .ensures) ∙ not-false _ (c .before .before .before .before .before .before .before .before .if1 .left)))
+    let a = c .before .before .before .before .before .before .before .before .before .before .before .before .before .args in
+    and-left (sessionOk (a .session)) (sourceOk (a .source)) (and-left (sessionOk (a .session) && sourceOk (a .source)) (stateOk (a .state)) (sym (c .before .before .before .before .before .before .before .before .before .before .sending-ok .ensures) ∙ not-false _ (c .before .before .before .before .before .before .before .before .before .if1 .left)))
 
--- src/lib.rt:119:5
+-- src/lib.rt:122:13
 store-requires : tie.Need-store-requires
 store-requires c κs =
-    let s = c .before .before .before .before .before .before .before .before .before .before .before .before .before .before in
+    let s = c .before .before .before .before .before .before .before .before .before .before .before .before .before .before .before in
     let b = now (s .args .block) in
-    let w = read-clean b (sym (c .before .before .before .before .before .before .before .before .before .before .before .sending-ok .ensures) ∙ not-false _ (c .before .before .before .before .before .before .before .before .before .before .if1 .left)) (sym (c .before .before .before .before .before .before .before .before .before .size-ok .ensures) ∙ not-false _ (c .before .before .before .before .before .before .before .before .if2 .left)) (c .before .before .before .before .before .before .before .read .ensures) (c .before .before .before .before .before .before .if3 .left) in
+    let w = read-clean b (sym (c .before .before .before .before .before .before .before .before .before .before .before .before .sending-ok .ensures) ∙ not-false _ (c .before .before .before .before .before .before .before .before .before .before .before .if1 .left)) (sym (c .before .before .before .before .before .before .before .before .before .before .size-ok .ensures) ∙ not-false _ (c .before .before .before .before .before .before .before .before .before .if2 .left)) (c .before .before .before .before .before .before .before .before .read .ensures) (c .before .before .before .before .before .before .reading2 .given .1) in
     (w .good, w .is, w .small)
 
--- src/lib.rt:97:1
+-- src/lib.rt:100:1
 same-length : tie.Need-same-length
 same-length c = search needs
 
--- src/lib.rt:97:1
+-- src/lib.rt:100:1
 returns-5 : tie.Need-returns-5
 unfolding toldWritten sendingResult
 returns-5 c =
-    let s = c .before .before .before .before .before .before .before .before .before .before .before .before .before .before .before .before .before in
+    let s = c .before .before .before .before .before .before .before .before .before .before .before .before .before .before .before .before .before .before in
     let b = now (s .args .block) in
-    let w = read-clean b (sym (c .before .before .before .before .before .before .before .before .before .before .before .before .before .before .sending-ok .ensures) ∙ not-false _ (c .before .before .before .before .before .before .before .before .before .before .before .before .before .if1 .left)) (sym (c .before .before .before .before .before .before .before .before .before .before .before .before .size-ok .ensures) ∙ not-false _ (c .before .before .before .before .before .before .before .before .before .before .before .if2 .left)) (c .before .before .before .before .before .before .before .before .before .before .read .ensures) (c .before .before .before .before .before .before .before .before .before .if3 .left) in
-    leaves-stored (sending-decided (s .args .session) (s .args .source) (s .args .state) b ∙ w .decides _ ∙ rule-none (λ r. Withheld r) (sendingResult (s .args .session) (s .args .source) (s .args .state) (attributes b)) ((sending-found (s .args .session) w (s .args .source) (s .args .state) (c .before .before .before .before .before .before .before .sending-rule .ensures .0)) ∙ c .before .before .before .before .before .before .if4 .left)) (rw (← c .before .before .before .before .before .sent-tag .ensures, ← c .before .before .before .before .sent-otc .ensures) (c .before .before .store .ensures))
+    let w = read-clean b (sym (c .before .before .before .before .before .before .before .before .before .before .before .before .before .before .before .sending-ok .ensures) ∙ not-false _ (c .before .before .before .before .before .before .before .before .before .before .before .before .before .before .if1 .left)) (sym (c .before .before .before .before .before .before .before .before .before .before .before .before .before .size-ok .ensures) ∙ not-false _ (c .before .before .before .before .before .before .before .before .before .before .before .before .if2 .left)) (c .before .before .before .before .before .before .before .before .before .before .before .read .ensures) (c .before .before .before .before .before .before .before .before .before .reading2 .given .1) in
+    leaves-stored (sending-decided (s .args .session) (s .args .source) (s .args .state) b ∙ w .decides _ ∙ rule-none (λ r. Withheld r) (sendingResult (s .args .session) (s .args .source) (s .args .state) (attributes b)) ((sending-found (s .args .session) w (s .args .source) (s .args .state) (c .before .before .before .before .before .before .before .sending-rule .ensures .0)) ∙ c .before .before .before .before .before .before .if3 .left)) (rw (← c .before .before .before .before .before .sent-tag .ensures, ← c .before .before .before .before .sent-otc .ensures) (c .before .before .store .ensures))
 
 pub send-spec : {M : Type 1} → statement M
 send-spec =
@@ -113,7 +121,9 @@ send-spec =
     size-ok-requires
     returns-2
     read-requires
+    enum-known-reading
     returns-3
+    enum-known-reading-2
     sending-rule-requires
     returns-4
     sent-tag-requires

@@ -25,13 +25,19 @@ returns-2 c =
 read-requires : tie.Need-read-requires
 read-requires c κs = search needs
 
+enum-known-reading : tie.Need-enum-known-reading
+enum-known-reading c = search needs
+
+enum-told : tie.Need-enum-told
+enum-told c = search needs
+
 unfit-requires-3 : tie.Need-unfit-requires-3
 unfit-requires-3 c κs = search needs
 
 returns-3 : tie.Need-returns-3
 returns-3 c =
     let a = c .before .before .before .before .before .before .before .args in
-    c .unfit3 .ensures ∙ examined-fault (record { block = now (a .block); state = a .state; identifier = a .identifier; address = a .address }) (c .before .before .before .before .before .if1 .left) (c .before .before .before .before .if2 .left) (c .before .before .before .read .ensures) (c .before .if3 .taken)
+    c .unfit3 .ensures ∙ examined-fault (record { block = now (a .block); state = a .state; identifier = a .identifier; address = a .address }) (c .before .before .before .before .before .if1 .left) (c .before .before .before .before .if2 .left) (c .before .before .before .read .ensures) (c .before .enum-told .given .1)
 
 cast-t9 : tie.Need-cast-t9
 cast-t9 c = search needs
@@ -54,7 +60,7 @@ cast-t15 c = search needs
 returns-4 : tie.Need-returns-4
 returns-4 c =
     let a = c .before .before .before .before .before .before .before .before .before .before .before .before .args in
-    examined-clean (record { block = now (a .block); state = a .state; identifier = a .identifier; address = a .address }) (c .before .before .before .before .before .before .before .before .before .before .if1 .left) (c .before .before .before .before .before .before .before .before .before .if2 .left) (c .before .before .before .before .before .before .before .before .read .ensures) (c .before .before .before .before .before .before .if3 .left) (c .before .before .before .value .ensures) (c .before .before .path-length .ensures) (c .before .value2 .ensures) (c .origin .ensures)
+    examined-clean (record { block = now (a .block); state = a .state; identifier = a .identifier; address = a .address }) (c .before .before .before .before .before .before .before .before .before .before .if1 .left) (c .before .before .before .before .before .before .before .before .before .if2 .left) (c .before .before .before .before .before .before .before .before .read .ensures) (c .before .before .before .before .before .before .reading .given .1) (c .before .before .before .value .ensures) (c .before .before .path-length .ensures) (c .before .value2 .ensures) (c .origin .ensures)
 
 pub examine-spec : {M : Type 1} → statement M
 examine-spec =
@@ -65,6 +71,8 @@ examine-spec =
     unfit-requires-2
     returns-2
     read-requires
+    enum-known-reading
+    enum-told
     unfit-requires-3
     returns-3
     cast-t9
