@@ -20,8 +20,8 @@ use Rattle.choice.specs.Offers.{offerSize, offer, offers, chooseIn}
 
 -- In order: 5, then 6 for a torn table or too many candidates, 10, 11.
 in-order : (mode torn many bad empty : Bool) (i : ℕ) (x d : Choice)
-    → answer (BadLength when torn ∷ refusals (answer (BadSetting when not mode ∷ BadLength when many ∷ BadCandidate i when bad ∷ NoRoute when empty ∷ []) x))
-    (resultOr d (answer (BadSetting when not mode ∷ BadLength when many ∷ BadCandidate i when bad ∷ NoRoute when empty ∷ []) x))
+    → answer order (BadLength when torn ∷ refusals (answer order (BadSetting when not mode ∷ BadLength when many ∷ BadCandidate i when bad ∷ NoRoute when empty ∷ []) x))
+    (resultOr d (answer order (BadSetting when not mode ∷ BadLength when many ∷ BadCandidate i when bad ∷ NoRoute when empty ∷ []) x))
     ≡ cond (not mode) (refused BadSetting)
     (cond torn (refused BadLength)
     (cond many (refused BadLength)

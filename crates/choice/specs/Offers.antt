@@ -5,7 +5,7 @@ use mathlib.Core.List.{List, _∷_, map}
 use lib.ListN.{getD}
 use Rattle.rules.specs.Bytes.{bigEndian, part}
 use Rattle.rules.specs.Rows.{chop, whole, by}
-use Rattle.rules.specs.Answers.{Answer, answer, _when_, refusals, resultOr}
+use Rattle.rules.specs.Answers.{Answer, answer, order, _when_, refusals, resultOr}
 use Rattle.rules.specs.Choice.{Offer, Choice, candidate, badOffer, choose}
 use Rattle.rules.specs.declared.Refusal.the-variants.{BadLength}
 use Rattle.choice.specs.declared.entry.Entry.{Entry}
@@ -35,6 +35,6 @@ offerExamined buffer o = cond (badOffer buffer o) unfitEntry (entryOf (candidate
 unfoldable pub chooseIn : ℕ → ℕ → List ℕ → List ℕ → Answer Choice
 chooseIn mode client buffer s =
     let chosen = choose mode client buffer (offers s) in
-    answer
+    answer order
     (BadLength when not (whole (chop (by offerSize) s)) ∷ refusals chosen)
     (resultOr (record { index = 0; left = 0 }) chosen)

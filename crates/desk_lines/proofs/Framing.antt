@@ -25,7 +25,7 @@ use Rattle.rules.specs.declared.Stated.{Stated}
 use Rattle.rules.specs.declared.Stated.the-variants.{State, Refused as NotStated}
 use Rattle.rules.specs.declared.Written.{Written}
 use Rattle.rules.specs.declared.Written.the-variants.{Bytes, Refused}
-use Rattle.rules.proofs.Answers.{answer-done, answer-refused, answer-past, answer-one}
+use Rattle.rules.proofs.Answers.{here, answer-decided, answer-done, answer-refused, answer-past, order-whole}
 use Rattle.rules.proofs.Buffers.{fitted-fits, leaves-alone}
 use Rattle.origin.specs.Steps.{validated}
 use Rattle.desk_lines.specs.Keeping.{replied, Replies}
@@ -42,28 +42,28 @@ Later r = eqb (number r) 12 ≡ false
 
 module _ {A B : Type 0} where
   through-setting : (a : Answer B) → ((r : Refusal) → a ≡ refused r → Later r) → (x : A)
-      → answer (Unreadable when false ∷ BadSetting when true ∷ refusals a) x ≡ refused BadSetting
+      → answer order (Unreadable when false ∷ BadSetting when true ∷ refusals a) x ≡ refused BadSetting
   unfolding answer order first number refusals
   through-setting (done s) h x = refl
   through-setting (refused r) h x = rw (h r refl) refl
 
-  through-refused : {a : Answer B} {r : Refusal} → a ≡ refused r → (x : A) → answer (Unreadable when false ∷ refusals a) x ≡ refused r
+  through-refused : {a : Answer B} {r : Refusal} → a ≡ refused r → (x : A) → answer order (Unreadable when false ∷ refusals a) x ≡ refused r
   unfolding refusals
-  through-refused {r = r} e x = rw e (answer-past Unreadable (r when true ∷ []) x ∙ answer-one r x)
+  through-refused {r = r} e x = rw e (answer-past order Unreadable (r when true ∷ []) x ∙ answer-decided order x (order-whole r) (here refl refl tt))
 
   through-both : {a : Answer B} {r : Refusal} → a ≡ refused r → (x : A)
-      → answer (Unreadable when false ∷ BadSetting when false ∷ refusals a) x ≡ refused r
+      → answer order (Unreadable when false ∷ BadSetting when false ∷ refusals a) x ≡ refused r
   unfolding refusals
   through-both {r = r} e x =
-      rw e (answer-past Unreadable (BadSetting when false ∷ r when true ∷ []) x ∙ answer-past BadSetting (r when true ∷ []) x ∙ answer-one r x)
+      rw e (answer-past order Unreadable (BadSetting when false ∷ r when true ∷ []) x ∙ answer-past order BadSetting (r when true ∷ []) x ∙ answer-decided order x (order-whole r) (here refl refl tt))
 
 open-later : (local strict : ℕ) (s : List ℕ) (r : Refusal) → openSession local strict s ≡ refused r → Later r
 unfolding openSession openChecks number
-open-later local strict s r e = answer-refused Later (openChecks local strict s) (counterpart local) r (refl, (refl, (refl, (refl, tt)))) e
+open-later local strict s r e = answer-refused Later order (openChecks local strict s) (counterpart local) r (refl, (refl, (refl, (refl, tt)))) e
 
 fitted-later : (a : Answer (List Attribute)) (room : ℕ) (r : Refusal) → ((q : Refusal) → a ≡ refused q → Later q) → fitted a room ≡ refused r → Later r
 unfolding fitted number
-fitted-later (done l) room r h e = answer-refused Later (NoRoom when noRoom (encode l) room ∷ []) (encode l) r (refl, tt) e
+fitted-later (done l) room r h e = answer-refused Later order (NoRoom when noRoom (encode l) room ∷ []) (encode l) r (refl, tt) e
 fitted-later (refused q) room r h e = let w : q ≡ r = cc in subst Later w (h q refl)
 
 receive-later : (s : Session) (b : List ℕ) (room : ℕ) (r : Refusal) → receive s b room ≡ refused r → Later r
@@ -72,7 +72,7 @@ receive-later s b room r e = fitted-later (receiptVerdict s b) room r decided e
   where
     decided : (q : Refusal) → receiptVerdict s b ≡ refused q → Later q
     decided q d =
-        answer-refused Later (blockChecks (sessionOk s) b ++ receiptRules s (attributes b)) (receiptResult s (attributes b)) q
+        answer-refused Later order (blockChecks (sessionOk s) b ++ receiptRules s (attributes b)) (receiptResult s (attributes b)) q
         (refl, (refl, (refl, (refl, (refl, tt))))) d
 
 -- ---- Session
@@ -186,7 +186,7 @@ fitted-readable s b x e = go (receiptVerdict s b) refl e
     go : (a : Answer (List Attribute)) → receiptVerdict s b ≡ a → fitted a blockMax ≡ done x → readable b ≡ true
     go (done l) d z =
         not-false (eqb (fault b) 0)
-        (answer-done (blockChecks (sessionOk s) b ++ receiptRules s (attributes b)) (receiptResult s (attributes b)) l d .1 .1 .1 .0 refl)
+        (answer-done order (blockChecks (sessionOk s) b ++ receiptRules s (attributes b)) (receiptResult s (attributes b)) l d .1 .1 .1 .0 refl)
     go (refused r) d z = let n : _≡_ {A = ℕ} 0 1 = cc in absurd (omega arith)
 
 module _ (s : Session) (table f : List ℕ) where

@@ -76,7 +76,7 @@ module _ {used : ℕ} {table : List ℕ} (k : Keeps used table) where
         vrp-taken e z = record { is = sym (rw (vrp-is e, z) refl); within = (omega arith, omega arith) }
 
   -- What a VRP frame that was answered 0 is.
-  passed : (p q t v : Bool) → wasDone (answer (Unreadable when p ∷ BadLength when (q || t) ∷ BadVrp 0 when v ∷ []) []) ≡ true
+  passed : (p q t v : Bool) → wasDone (answer order (Unreadable when p ∷ BadLength when (q || t) ∷ BadVrp 0 when v ∷ []) []) ≡ true
       → (p ≡ false) × (q ≡ false) × (t ≡ false) × (v ≡ false)
   unfolding answer order first number wasDone
   passed true q t v e = absurd (false≢true e)
