@@ -21,7 +21,7 @@ ghost use Rattle.c_api.specs.Numbers.{Reported, indexTold, leftTold};
 pub extern "C" fn bgp_open(local_role: u8, strict: u8, parameters: &[u8], beside: &mut usize) -> u8
     ensures { λ r. ⌜ (r ≡ answerNumber (openSession «local_role» strict (now (parameters .entry)))) × (now (beside .exit) ≡ besideNumber (openSession «local_role» strict (now (parameters .entry)))) ⌝ }
 {
-    let answer = roles::open_session(parameters, local_role, strict);
+    let answer = opening::open_session(parameters, local_role, strict);
     report_opened(answer, beside)
 }
 

@@ -1,10 +1,10 @@
 // Answers as numbers: the answer number as the result, and through `beside` the number beside it.
-use octets::answers::refusal_number;
 use rules::Chosen;
 use rules::Opened;
 use rules::Refusal;
 use rules::Stated;
 use rules::Written;
+use settings::answers::refusal_number;
 ghost use mathlib.Core.Path.{_≡_};
 ghost use Rattle.rules.specs.Answers.{refused, number, answerNumber, besideNumber, toldOpened, toldWritten, toldStated};
 ghost use Rattle.rules.specs.Choice.{toldChosen};

@@ -2,17 +2,17 @@
 // the start of `made`, 4,074 bytes that its caller lends, and answers how many bytes that is, or a refusal.
 use octets::buffer::put;
 use octets::number4;
+use opening::open_session;
 use origin::validate;
 use origin::vrp::bad_vrp;
-use policy::judge::session_ok;
 use policy::receive;
 use policy::send;
-use roles::open_session;
 use rules::Opened;
 use rules::Refusal;
 use rules::Session;
 use rules::Stated;
 use rules::Written;
+use settings::ranges::session_ok;
 ghost use mathlib.Core.Path.{_≡_};
 ghost use mathlib.Core.Bool.{true};
 ghost use Prim.Native.Nat.{_≤_};

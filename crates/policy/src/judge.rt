@@ -1,109 +1,33 @@
-// The settings, and the rules of receipt and sending (01, "Settings", "Receipt" and "Sending"; RFC 9234 section 5). All of it is
-// internal: receipt and sending call it.
-use roles::CUSTOMER;
-use roles::PEER;
-use roles::PROVIDER;
-use roles::RS;
-use roles::RS_CLIENT;
-use roles::remote_role;
-use rules::BLOCK_MAX;
+// The rules of receipt and sending (01, "Receipt" and "Sending"; RFC 9234 section 5). All of it is internal: receipt and sending
+// call it.
 use rules::Session;
+use settings::flags::both;
+use settings::flags::one_of_three;
+use settings::flags::one_of_two;
+use settings::modes::DROP_INVALID;
+use settings::modes::mode_meant;
+use settings::roles::CUSTOMER;
+use settings::roles::OWN_ROUTE;
+use settings::roles::PEER;
+use settings::roles::PROVIDER;
+use settings::roles::RS;
+use settings::roles::RS_CLIENT;
+use settings::roles::remote_role;
+use settings::states::INVALID;
+use settings::states::UNAVAILABLE;
 ghost use mathlib.Core.Path.{_≡_};
 ghost use mathlib.Core.Bool.{true, not, cond, _&&_};
 ghost use mathlib.Core.List.{[], _∷_};
 ghost use mathlib.Core.Option.{none, some};
 ghost use Prim.Native.Nat.{_≤_};
-ghost use lib.Dec.{leb, eqb};
+ghost use lib.Dec.{eqb};
 ghost use Rattle.rules.specs.Bytes.{oneOf};
-ghost use Rattle.rules.specs.Settings.{blockMax, asOk, sourceOk, stateOk, sessionOk, modeMeant, dropInvalid, invalid};
-ghost use Rattle.rules.specs.Roles.{provider, rs, rsClient, customer, peer, counterpart};
+ghost use Rattle.rules.specs.Settings.{sessionOk, modeMeant, dropInvalid, invalid};
+ghost use Rattle.rules.specs.Roles.{provider, rs, rsClient, customer, peer};
 ghost use Rattle.rules.specs.Receipt.{otcReceived};
 ghost use Rattle.rules.specs.Sending.{ownRoute, tagSent, otcSent};
 ghost use Rattle.policy.specs.Plan.{toldTag, toldOtc};
 ghost use Rattle.policy.specs.Judge.{receiptRule, sendingRule};
-
-// The source that is no neighbour's role (01, "own route").
-const OWN_ROUTE: u8 = 255;
-
-// Modes (01, "Modes").
-const HOUSE_DEFAULT: u8 = 1;
-
-const DROP_INVALID: u8 = 2;
-
-const PRIORITISE: u8 = 3;
-
-// States (01, "Origin state").
-const INVALID: u8 = 2;
-
-const UNAVAILABLE: u8 = 3;
-
-// Both tests hold. (A call, so that what follows has one flag and no branches that meet.)
-fn both(x: bool, y: bool) -> bool
-    ensures { λ r. ⌜ r ≡ (x && y) ⌝ }
-{
-    if x { y } else { false }
-}
-
-// The number is one of these two, or of these three.
-fn one_of_two(n: u8, a: u8, b: u8) -> bool
-    ensures { λ r. ⌜ r ≡ oneOf (a ∷ b ∷ []) n ⌝ }
-{
-    n == a || n == b
-}
-
-fn one_of_three(n: u8, a: u8, b: u8, c: u8) -> bool
-    ensures { λ r. ⌜ r ≡ oneOf (a ∷ b ∷ c ∷ []) n ⌝ }
-{
-    n == a || one_of_two(n, b, c)
-}
-
-// 01, "Sizes": a block of up to 4,073 bytes.
-pub fn size_ok(len: usize) -> bool
-    ensures { λ r. ⌜ r ≡ leb len blockMax ⌝ }
-{
-    len <= BLOCK_MAX
-}
-
-// 01, Settings: "AS numbers 1 to 4,294,967,295", "the two of a session unequal".
-fn as_ok(n: u32) -> bool
-    ensures { λ r. ⌜ r ≡ asOk n ⌝ }
-{
-    1 <= n
-}
-
-fn ases_ok(local: u32, remote: u32) -> bool
-    ensures { λ r. ⌜ r ≡ (asOk local && asOk remote && not (eqb local remote)) ⌝ }
-{
-    both(both(as_ok(local), as_ok(remote)), local != remote)
-}
-
-// Each setting of a session is in its range (01, Settings).
-pub fn session_ok(session: Session) -> bool
-    ensures { λ r. ⌜ r ≡ sessionOk session ⌝ }
-{
-    let ases = ases_ok(session.local_as, session.remote_as);
-    both(
-        both(ases, session.local_role <= PEER),
-        session.mode <= PRIORITISE,
-    )
-}
-
-// 01, Settings: "source 0 to 4 or 255".
-fn source_ok(source: u8) -> bool
-    ensures { λ r. ⌜ r ≡ sourceOk source ⌝ }
-{
-    source <= PEER || source == OWN_ROUTE
-}
-
-// The settings of sending: those of its session, the source and the state (01, Settings).
-pub fn sending_ok(session: Session, source: u8, state: u8) -> bool
-    ensures { λ r. ⌜ r ≡ (sessionOk session && sourceOk source && stateOk state) ⌝ }
-{
-    both(
-        both(session_ok(session), source_ok(source)),
-        state <= UNAVAILABLE,
-    )
-}
 
 // A role that routes go up or across to: Provider, Peer or RS.
 fn is_up(role: u8) -> bool
@@ -152,13 +76,6 @@ fn from_above(source: u8) -> bool
     ensures { λ r. ⌜ r ≡ not (oneOf (ownRoute ∷ customer ∷ []) source) ⌝ }
 {
     !one_of_two(source, OWN_ROUTE, CUSTOMER)
-}
-
-// The mode that is meant: 0 stands for the house default (01, Modes).
-pub fn mode_meant(mode: u8) -> u8
-    ensures { λ r. ⌜ r ≡ modeMeant mode ⌝ }
-{
-    if mode == 0 { HOUSE_DEFAULT } else { mode }
 }
 
 // An invalid route that the mode drops on its way to an RS-Client (01, Sending, rule 3).

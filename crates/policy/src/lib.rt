@@ -12,17 +12,17 @@ use attributes::read;
 use attributes::value;
 use judge::receipt_rule;
 use judge::received_otc;
-use judge::sending_ok;
 use judge::sending_rule;
 use judge::sent_otc;
 use judge::sent_tag;
-use judge::session_ok;
-use judge::size_ok;
 use planner::plan;
 use rules::BLOCK_MAX;
 use rules::Refusal;
 use rules::Session;
 use rules::Written;
+use settings::ranges::block_size_ok;
+use settings::ranges::sending_ok;
+use settings::ranges::session_ok;
 use writer::write;
 ghost use mathlib.Core.Path.{_≡_};
 ghost use mathlib.Core.Bool.{true};
@@ -75,7 +75,7 @@ pub fn receive(session: Session, block: &[u8], out: &mut [u8]) -> Written
     if !session_ok(session) {
         return Written::Refused(Refusal::BadSetting);
     }
-    if !size_ok(block.len()) {
+    if !block_size_ok(block.len()) {
         return Written::Refused(Refusal::BadLength);
     }
     let reading = read(block);
@@ -103,7 +103,7 @@ pub fn send(session: Session, source: u8, state: u8, block: &[u8], out: &mut [u8
     if !sending_ok(session, source, state) {
         return Written::Refused(Refusal::BadSetting);
     }
-    if !size_ok(block.len()) {
+    if !block_size_ok(block.len()) {
         return Written::Refused(Refusal::BadLength);
     }
     let reading = read(block);

@@ -19,8 +19,8 @@ use Rattle.attributes.proofs.read.Reads as read-reads
 use Rattle.attributes.proofs.value.Reads as value-reads
 use Rattle.policy.proofs.judge.receipt_rule.Reads as receipt-rule-reads
 use Rattle.policy.proofs.judge.received_otc.Reads as received-otc-reads
-use Rattle.policy.proofs.judge.session_ok.Reads as session-ok-reads
-use Rattle.policy.proofs.judge.size_ok.Reads as size-ok-reads
+use Rattle.settings.proofs.ranges.session_ok.Reads as session-ok-reads
+use Rattle.settings.proofs.ranges.block_size_ok.Reads as block-size-ok-reads
 use Rattle.policy.proofs.store.Reads as store-reads
 
 -- src/lib.rt:75:9
@@ -36,8 +36,8 @@ returns c =
     leaves-refused (now (s .args .out)) (receipt-decided (s .args .session) b ∙ bad-setting b (sym (c .before .session-ok .ensures) ∙ not-true _ (c .if1 .taken)) _)
 
 -- src/lib.rt:78:9
-size-ok-requires : tie.Need-size-ok-requires
-size-ok-requires c κs = search needs
+block-size-ok-requires : tie.Need-block-size-ok-requires
+block-size-ok-requires c κs = search needs
 
 -- src/lib.rt:79:9
 returns-2 : tie.Need-returns-2
@@ -45,7 +45,7 @@ unfolding toldWritten
 returns-2 c =
     let s = c .before .before .before .before .before .before in
     let b = now (s .args .block) in
-    leaves-refused (now (s .args .out)) (receipt-decided (s .args .session) b ∙ bad-length b (sym (c .before .before .before .session-ok .ensures) ∙ not-false _ (c .before .before .if1 .left)) (sym (c .before .size-ok .ensures) ∙ not-true _ (c .if2 .taken)) _)
+    leaves-refused (now (s .args .out)) (receipt-decided (s .args .session) b ∙ bad-length b (sym (c .before .before .before .session-ok .ensures) ∙ not-false _ (c .before .before .if1 .left)) (sym (c .before .block-size-ok .ensures) ∙ not-true _ (c .if2 .taken)) _)
 
 -- src/lib.rt:81:9
 read-requires : tie.Need-read-requires
@@ -61,7 +61,7 @@ unfolding toldWritten
 returns-3 c =
     let s = c .before .before .before .before .before .before .before .before .before .before in
     let b = now (s .args .block) in
-    leaves-refused (now (s .args .out)) (receipt-decided (s .args .session) b ∙ read-fault b (sym (c .before .before .before .before .before .before .before .session-ok .ensures) ∙ not-false _ (c .before .before .before .before .before .before .if1 .left)) (sym (c .before .before .before .before .before .size-ok .ensures) ∙ not-false _ (c .before .before .before .before .if2 .left)) (c .before .before .before .read .ensures) (c .before .reading .given .1) _)
+    leaves-refused (now (s .args .out)) (receipt-decided (s .args .session) b ∙ read-fault b (sym (c .before .before .before .before .before .before .before .session-ok .ensures) ∙ not-false _ (c .before .before .before .before .before .before .if1 .left)) (sym (c .before .before .before .before .before .block-size-ok .ensures) ∙ not-false _ (c .before .before .before .before .if2 .left)) (c .before .before .before .read .ensures) (c .before .reading .given .1) _)
 
 -- src/lib.rt:86:24
 enum-known-reading-2 : tie.Need-enum-known-reading-2
@@ -85,7 +85,7 @@ unfolding toldWritten
 returns-4 c =
     let s = c .before .before .before .before .before .before .before .before .before .before .before .before .before .before in
     let b = now (s .args .block) in
-    let w = read-clean b (sym (c .before .before .before .before .before .before .before .before .before .before .before .session-ok .ensures) ∙ not-false _ (c .before .before .before .before .before .before .before .before .before .before .if1 .left)) (sym (c .before .before .before .before .before .before .before .before .before .size-ok .ensures) ∙ not-false _ (c .before .before .before .before .before .before .before .before .if2 .left)) (c .before .before .before .before .before .before .before .read .ensures) (c .before .before .before .before .before .reading2 .given .1) in
+    let w = read-clean b (sym (c .before .before .before .before .before .before .before .before .before .before .before .session-ok .ensures) ∙ not-false _ (c .before .before .before .before .before .before .before .before .before .before .if1 .left)) (sym (c .before .before .before .before .before .before .before .before .before .block-size-ok .ensures) ∙ not-false _ (c .before .before .before .before .before .before .before .before .if2 .left)) (c .before .before .before .before .before .before .before .read .ensures) (c .before .before .before .before .before .reading2 .given .1) in
     leaves-refused (now (s .args .out)) (receipt-decided (s .args .session) b ∙ w .decides _ ∙ rule-some (λ r. Ineligible r) (receiptResult (s .args .session) (attributes b)) (receipt-found (s .args .session) w (c .before .before .before .value .ensures) (c .before .before .otc-as .ensures) (c .before .receipt-rule .ensures .0)) (c .if3 .taken))
 
 -- src/lib.rt:93:17
@@ -97,7 +97,7 @@ store-requires : tie.Need-store-requires
 store-requires c κs =
     let s = c .before .before .before .before .before .before .before .before .before .before .before .before .before .before .before .before in
     let b = now (s .args .block) in
-    let w = read-clean b (sym (c .before .before .before .before .before .before .before .before .before .before .before .before .before .session-ok .ensures) ∙ not-false _ (c .before .before .before .before .before .before .before .before .before .before .before .before .if1 .left)) (sym (c .before .before .before .before .before .before .before .before .before .before .before .size-ok .ensures) ∙ not-false _ (c .before .before .before .before .before .before .before .before .before .before .if2 .left)) (c .before .before .before .before .before .before .before .before .before .read .ensures) (c .before .before .before .before .before .before .before .reading2 .given .1) in
+    let w = read-clean b (sym (c .before .before .before .before .before .before .before .before .before .before .before .before .before .session-ok .ensures) ∙ not-false _ (c .before .before .before .before .before .before .before .before .before .before .before .before .if1 .left)) (sym (c .before .before .before .before .before .before .before .before .before .before .before .block-size-ok .ensures) ∙ not-false _ (c .before .before .before .before .before .before .before .before .before .before .if2 .left)) (c .before .before .before .before .before .before .before .before .before .read .ensures) (c .before .before .before .before .before .before .before .reading2 .given .1) in
     (w .good, w .is, w .small)
 
 -- src/lib.rt:72:1
@@ -110,7 +110,7 @@ unfolding toldWritten receiptResult toldTag
 returns-5 c =
     let s = c .before .before .before .before .before .before .before .before .before .before .before .before .before .before .before .before .before .before .before in
     let b = now (s .args .block) in
-    let w = read-clean b (sym (c .before .before .before .before .before .before .before .before .before .before .before .before .before .before .before .before .session-ok .ensures) ∙ not-false _ (c .before .before .before .before .before .before .before .before .before .before .before .before .before .before .before .if1 .left)) (sym (c .before .before .before .before .before .before .before .before .before .before .before .before .before .before .size-ok .ensures) ∙ not-false _ (c .before .before .before .before .before .before .before .before .before .before .before .before .before .if2 .left)) (c .before .before .before .before .before .before .before .before .before .before .before .before .read .ensures) (c .before .before .before .before .before .before .before .before .before .before .reading2 .given .1) in
+    let w = read-clean b (sym (c .before .before .before .before .before .before .before .before .before .before .before .before .before .before .before .before .session-ok .ensures) ∙ not-false _ (c .before .before .before .before .before .before .before .before .before .before .before .before .before .before .before .if1 .left)) (sym (c .before .before .before .before .before .before .before .before .before .before .before .before .before .before .block-size-ok .ensures) ∙ not-false _ (c .before .before .before .before .before .before .before .before .before .before .before .before .before .if2 .left)) (c .before .before .before .before .before .before .before .before .before .before .before .before .read .ensures) (c .before .before .before .before .before .before .before .before .before .before .reading2 .given .1) in
     leaves-stored (receipt-decided (s .args .session) b ∙ w .decides _ ∙ rule-none (λ r. Ineligible r) (receiptResult (s .args .session) (attributes b)) ((receipt-found (s .args .session) w (c .before .before .before .before .before .before .before .before .value .ensures) (c .before .before .before .before .before .before .before .otc-as .ensures) (c .before .before .before .before .before .before .receipt-rule .ensures .0)) ∙ c .before .before .before .before .before .if3 .left)) (rw (c .before .before .before .before .received-otc .ensures) at (c .before .before .store .ensures))
 
 pub receive-spec : {M : Type 1} → statement M
@@ -119,7 +119,7 @@ receive-spec =
     (tie.spec
     session-ok-requires
     returns
-    size-ok-requires
+    block-size-ok-requires
     returns-2
     read-requires
     enum-known-reading

@@ -7,7 +7,7 @@ use Rattle.rules.specs.Settings.{sessionOk, sourceOk, stateOk}
 use Rattle.rules.specs.Attributes.{attributes}
 use Rattle.rules.specs.Sending.{sendingResult}
 use Rattle.rules.specs.declared.Refusal.the-variants.{Withheld}
-use Rattle.rules.proofs.Roles.{and-left}
+use Rattle.rules.proofs.Lists.{and-left}
 use Rattle.policy.proofs.Readings.{bad-setting, bad-length, read-fault, read-clean, sending-found}
 use Rattle.policy.proofs.Verdicts.{rule-some, rule-none, sending-decided}
 use Rattle.policy.proofs.Rooms.{leaves-refused, leaves-stored}
@@ -17,11 +17,11 @@ use Rattle.policy.proofs.send.Tie as tie
 use Rattle.policy.proofs.send.Reads as reads
 use Rattle.policy.proofs.send.Lts as lts
 use Rattle.attributes.proofs.read.Reads as read-reads
-use Rattle.policy.proofs.judge.sending_ok.Reads as sending-ok-reads
+use Rattle.settings.proofs.ranges.sending_ok.Reads as sending-ok-reads
 use Rattle.policy.proofs.judge.sending_rule.Reads as sending-rule-reads
 use Rattle.policy.proofs.judge.sent_otc.Reads as sent-otc-reads
 use Rattle.policy.proofs.judge.sent_tag.Reads as sent-tag-reads
-use Rattle.policy.proofs.judge.size_ok.Reads as size-ok-reads
+use Rattle.settings.proofs.ranges.block_size_ok.Reads as block-size-ok-reads
 use Rattle.policy.proofs.store.Reads as store-reads
 
 -- src/lib.rt:103:9
@@ -37,8 +37,8 @@ returns c =
     leaves-refused (now (s .args .out)) (sending-decided (s .args .session) (s .args .source) (s .args .state) b ∙ bad-setting b (sym (c .before .sending-ok .ensures) ∙ not-true _ (c .if1 .taken)) _)
 
 -- src/lib.rt:106:9
-size-ok-requires : tie.Need-size-ok-requires
-size-ok-requires c κs = search needs
+block-size-ok-requires : tie.Need-block-size-ok-requires
+block-size-ok-requires c κs = search needs
 
 -- src/lib.rt:107:9
 returns-2 : tie.Need-returns-2
@@ -46,7 +46,7 @@ unfolding toldWritten
 returns-2 c =
     let s = c .before .before .before .before .before .before in
     let b = now (s .args .block) in
-    leaves-refused (now (s .args .out)) (sending-decided (s .args .session) (s .args .source) (s .args .state) b ∙ bad-length b (sym (c .before .before .before .sending-ok .ensures) ∙ not-false _ (c .before .before .if1 .left)) (sym (c .before .size-ok .ensures) ∙ not-true _ (c .if2 .taken)) _)
+    leaves-refused (now (s .args .out)) (sending-decided (s .args .session) (s .args .source) (s .args .state) b ∙ bad-length b (sym (c .before .before .before .sending-ok .ensures) ∙ not-false _ (c .before .before .if1 .left)) (sym (c .before .block-size-ok .ensures) ∙ not-true _ (c .if2 .taken)) _)
 
 -- src/lib.rt:109:9
 read-requires : tie.Need-read-requires
@@ -62,7 +62,7 @@ unfolding toldWritten
 returns-3 c =
     let s = c .before .before .before .before .before .before .before .before .before .before in
     let b = now (s .args .block) in
-    leaves-refused (now (s .args .out)) (sending-decided (s .args .session) (s .args .source) (s .args .state) b ∙ read-fault b (sym (c .before .before .before .before .before .before .before .sending-ok .ensures) ∙ not-false _ (c .before .before .before .before .before .before .if1 .left)) (sym (c .before .before .before .before .before .size-ok .ensures) ∙ not-false _ (c .before .before .before .before .if2 .left)) (c .before .before .before .read .ensures) (c .before .reading .given .1) _)
+    leaves-refused (now (s .args .out)) (sending-decided (s .args .session) (s .args .source) (s .args .state) b ∙ read-fault b (sym (c .before .before .before .before .before .before .before .sending-ok .ensures) ∙ not-false _ (c .before .before .before .before .before .before .if1 .left)) (sym (c .before .before .before .before .before .block-size-ok .ensures) ∙ not-false _ (c .before .before .before .before .if2 .left)) (c .before .before .before .read .ensures) (c .before .reading .given .1) _)
 
 -- src/lib.rt:114:24
 enum-known-reading-2 : tie.Need-enum-known-reading-2
@@ -78,7 +78,7 @@ unfolding toldWritten
 returns-4 c =
     let s = c .before .before .before .before .before .before .before .before .before .before .before .before in
     let b = now (s .args .block) in
-    let w = read-clean b (sym (c .before .before .before .before .before .before .before .before .before .sending-ok .ensures) ∙ not-false _ (c .before .before .before .before .before .before .before .before .if1 .left)) (sym (c .before .before .before .before .before .before .before .size-ok .ensures) ∙ not-false _ (c .before .before .before .before .before .before .if2 .left)) (c .before .before .before .before .before .read .ensures) (c .before .before .before .reading2 .given .1) in
+    let w = read-clean b (sym (c .before .before .before .before .before .before .before .before .before .sending-ok .ensures) ∙ not-false _ (c .before .before .before .before .before .before .before .before .if1 .left)) (sym (c .before .before .before .before .before .before .before .block-size-ok .ensures) ∙ not-false _ (c .before .before .before .before .before .before .if2 .left)) (c .before .before .before .before .before .read .ensures) (c .before .before .before .reading2 .given .1) in
     leaves-refused (now (s .args .out)) (sending-decided (s .args .session) (s .args .source) (s .args .state) b ∙ w .decides _ ∙ rule-some (λ r. Withheld r) (sendingResult (s .args .session) (s .args .source) (s .args .state) (attributes b)) (sending-found (s .args .session) w (s .args .source) (s .args .state) (c .before .sending-rule .ensures .0)) (c .if3 .taken))
 
 -- src/lib.rt:120:17
@@ -96,7 +96,7 @@ store-requires : tie.Need-store-requires
 store-requires c κs =
     let s = c .before .before .before .before .before .before .before .before .before .before .before .before .before .before .before in
     let b = now (s .args .block) in
-    let w = read-clean b (sym (c .before .before .before .before .before .before .before .before .before .before .before .before .sending-ok .ensures) ∙ not-false _ (c .before .before .before .before .before .before .before .before .before .before .before .if1 .left)) (sym (c .before .before .before .before .before .before .before .before .before .before .size-ok .ensures) ∙ not-false _ (c .before .before .before .before .before .before .before .before .before .if2 .left)) (c .before .before .before .before .before .before .before .before .read .ensures) (c .before .before .before .before .before .before .reading2 .given .1) in
+    let w = read-clean b (sym (c .before .before .before .before .before .before .before .before .before .before .before .before .sending-ok .ensures) ∙ not-false _ (c .before .before .before .before .before .before .before .before .before .before .before .if1 .left)) (sym (c .before .before .before .before .before .before .before .before .before .before .block-size-ok .ensures) ∙ not-false _ (c .before .before .before .before .before .before .before .before .before .if2 .left)) (c .before .before .before .before .before .before .before .before .read .ensures) (c .before .before .before .before .before .before .reading2 .given .1) in
     (w .good, w .is, w .small)
 
 -- src/lib.rt:100:1
@@ -109,7 +109,7 @@ unfolding toldWritten sendingResult
 returns-5 c =
     let s = c .before .before .before .before .before .before .before .before .before .before .before .before .before .before .before .before .before .before in
     let b = now (s .args .block) in
-    let w = read-clean b (sym (c .before .before .before .before .before .before .before .before .before .before .before .before .before .before .before .sending-ok .ensures) ∙ not-false _ (c .before .before .before .before .before .before .before .before .before .before .before .before .before .before .if1 .left)) (sym (c .before .before .before .before .before .before .before .before .before .before .before .before .before .size-ok .ensures) ∙ not-false _ (c .before .before .before .before .before .before .before .before .before .before .before .before .if2 .left)) (c .before .before .before .before .before .before .before .before .before .before .before .read .ensures) (c .before .before .before .before .before .before .before .before .before .reading2 .given .1) in
+    let w = read-clean b (sym (c .before .before .before .before .before .before .before .before .before .before .before .before .before .before .before .sending-ok .ensures) ∙ not-false _ (c .before .before .before .before .before .before .before .before .before .before .before .before .before .before .if1 .left)) (sym (c .before .before .before .before .before .before .before .before .before .before .before .before .before .block-size-ok .ensures) ∙ not-false _ (c .before .before .before .before .before .before .before .before .before .before .before .before .if2 .left)) (c .before .before .before .before .before .before .before .before .before .before .before .read .ensures) (c .before .before .before .before .before .before .before .before .before .reading2 .given .1) in
     leaves-stored (sending-decided (s .args .session) (s .args .source) (s .args .state) b ∙ w .decides _ ∙ rule-none (λ r. Withheld r) (sendingResult (s .args .session) (s .args .source) (s .args .state) (attributes b)) ((sending-found (s .args .session) w (s .args .source) (s .args .state) (c .before .before .before .before .before .before .before .sending-rule .ensures .0)) ∙ c .before .before .before .before .before .before .if3 .left)) (rw (← c .before .before .before .before .before .sent-tag .ensures, ← c .before .before .before .before .sent-otc .ensures) (c .before .before .store .ensures))
 
 pub send-spec : {M : Type 1} → statement M
@@ -118,7 +118,7 @@ send-spec =
     (tie.spec
     sending-ok-requires
     returns
-    size-ok-requires
+    block-size-ok-requires
     returns-2
     read-requires
     enum-known-reading

@@ -3,7 +3,7 @@ use native.Mathlib.Omega.{arith}
 use borrow.Author.Needs.{needs}
 use Rattle.rules.specs.Roles.{remoteRole}
 use Rattle.rules.specs.Receipt.{otcReceived}
-use Rattle.policy.proofs.Judging.{session-ases}
+use Rattle.rules.proofs.Roles.{session-ases}
 use Rattle.policy.proofs.judge.received_otc.Statement.{statement}
 use Rattle.policy.proofs.judge.received_otc.Tie as tie
 

@@ -3,7 +3,7 @@ use native.Mathlib.Omega.{arith}
 use borrow.Author.Needs.{needs}
 use Rattle.rules.specs.Roles.{remoteRole}
 use Rattle.rules.specs.Sending.{otcSent}
-use Rattle.policy.proofs.Judging.{session-ases}
+use Rattle.rules.proofs.Roles.{session-ases}
 use Rattle.policy.proofs.judge.sent_otc.Statement.{statement}
 use Rattle.policy.proofs.judge.sent_otc.Tie as tie
 

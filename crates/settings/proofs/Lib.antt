@@ -1,0 +1,1 @@
+-- The functions of settings need no law beyond those of `rules`.

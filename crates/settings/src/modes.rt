@@ -1,0 +1,19 @@
+// Modes (01, "Modes"; source 002).
+ghost use mathlib.Core.Path.{_≡_};
+ghost use Rattle.rules.specs.Settings.{modeMeant};
+
+pub const SIMPLE_TAGGING: u8 = 1;
+
+pub const DROP_INVALID: u8 = 2;
+
+pub const PRIORITISE: u8 = 3;
+
+// What mode 0 stands for.
+pub const HOUSE_DEFAULT: u8 = SIMPLE_TAGGING;
+
+// The mode that is meant: 0 stands for the house default.
+pub fn mode_meant(mode: u8) -> u8
+    ensures { λ r. ⌜ r ≡ modeMeant mode ⌝ }
+{
+    if mode == 0 { HOUSE_DEFAULT } else { mode }
+}
