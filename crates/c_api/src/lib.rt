@@ -1,9 +1,11 @@
 // The library for callers in C and Rust: numbers, slices and numbers handed back. include/bgp_policy.h declares it.
 pub mod report;
 
-use report::report;
+use choice::keys::Sender;
+use report::report_advertised;
 use report::report_chosen;
 use report::report_opened;
+use report::report_received;
 use report::report_stated;
 use rules::Session;
 ghost use mathlib.Core.Path.{_≡_};
@@ -12,8 +14,7 @@ ghost use Rattle.rules.specs.Roles.{openSession};
 ghost use Rattle.rules.specs.Receipt.{receiptVerdict};
 ghost use Rattle.rules.specs.Sending.{sendingVerdict};
 ghost use Rattle.rules.specs.Origin.{ipv4, originState, receivedTag};
-ghost use Rattle.rules.specs.Choice.{better};
-ghost use Rattle.choice.specs.Offers.{chooseIn};
+ghost use Rattle.rules.specs.Choice.{chooseIn, better};
 ghost use Rattle.c_api.specs.Numbers.{Reported, indexTold, leftTold};
 
 // Opening of a session: the role agreement in the OPEN's optional parameters.
@@ -45,7 +46,7 @@ pub extern "C" fn bgp_receive(
         mode,
     };
     let answer = policy::receive(session, block, out);
-    report(answer, beside)
+    report_received(answer, beside)
 }
 
 // Sending of a block on a session.
@@ -70,7 +71,7 @@ pub extern "C" fn bgp_send(
         mode,
     };
     let answer = policy::send(session, source, state, block, out);
-    report(answer, beside)
+    report_advertised(answer, beside)
 }
 
 // The origin state of an IPv4 route, by a table of VRPs.
@@ -130,17 +131,16 @@ pub extern "C" fn bgp_better<'a>(
     ensures { λ r. ⌜ (r ≡ answerNumber (better (record { block = now (first .entry); state = state; identifier = identifier; address = address }) (record { block = now (second .entry); state = «other_state»; identifier = «other_identifier»; address = «other_address» }))) × (now (beside .exit) ≡ besideNumber (better (record { block = now (first .entry); state = state; identifier = identifier; address = address }) (record { block = now (second .entry); state = «other_state»; identifier = «other_identifier»; address = «other_address» }))) ⌝ }
 {
     let mut answer = 0u8;
-    let winner = choice::better(
-        first,
+    let sender = Sender {
         state,
         identifier,
         address,
-        second,
-        other_state,
-        other_identifier,
-        other_address,
-        &mut answer,
-        beside,
-    );
+    };
+    let other = Sender {
+        state: other_state,
+        identifier: other_identifier,
+        address: other_address,
+    };
+    let winner = choice::better(first, sender, second, other, &mut answer, beside);
     answer
 }

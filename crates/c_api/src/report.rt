@@ -1,12 +1,13 @@
 // Answers as numbers: the answer number as the result, and through `beside` the number beside it.
+use rules::Advertised;
 use rules::Chosen;
 use rules::Opened;
+use rules::Received;
 use rules::Refusal;
 use rules::Stated;
-use rules::Written;
 use settings::answers::refusal_number;
 ghost use mathlib.Core.Path.{_≡_};
-ghost use Rattle.rules.specs.Answers.{refused, number, answerNumber, besideNumber, toldOpened, toldWritten, toldStated};
+ghost use Rattle.rules.specs.Answers.{refused, number, answerNumber, besideNumber, toldOpened, toldReceived, toldAdvertised, toldStated};
 ghost use Rattle.rules.specs.Choice.{toldChosen};
 ghost use Rattle.c_api.specs.Numbers.{indexTold, leftTold};
 
@@ -45,16 +46,29 @@ pub fn report_opened(answer: Opened, beside: &mut usize) -> u8
     }
 }
 
-// An answer of receipt or sending as numbers: likewise, with the length on answer 0.
-pub fn report(answer: Written, beside: &mut usize) -> u8
-    ensures { λ r. ⌜ (r ≡ answerNumber (toldWritten answer)) × (now (beside .exit) ≡ besideNumber (toldWritten answer)) ⌝ }
+// An answer of receipt as numbers: likewise, with the length on answer 0.
+pub fn report_received(answer: Received, beside: &mut usize) -> u8
+    ensures { λ r. ⌜ (r ≡ answerNumber (toldReceived answer)) × (now (beside .exit) ≡ besideNumber (toldReceived answer)) ⌝ }
 {
     match answer {
-        Written::Bytes(length) => {
+        Received::Block(length) => {
             *beside = length;
             0
         }
-        Written::Refused(refusal) => report_refusal(refusal, beside),
+        Received::Refused(refusal) => report_refusal(refusal, beside),
+    }
+}
+
+// An answer of sending as numbers: likewise.
+pub fn report_advertised(answer: Advertised, beside: &mut usize) -> u8
+    ensures { λ r. ⌜ (r ≡ answerNumber (toldAdvertised answer)) × (now (beside .exit) ≡ besideNumber (toldAdvertised answer)) ⌝ }
+{
+    match answer {
+        Advertised::Block(length) => {
+            *beside = length;
+            0
+        }
+        Advertised::Refused(refusal) => report_refusal(refusal, beside),
     }
 }
 

@@ -1,113 +1,140 @@
--- The answers of choosing and of comparing.
-use Prim.Native.Nat.{ℕ, _*_, _%_, _≤_, _<_}
+-- The answers of choosing and of comparing: what each way out of the code answers is what the definition does.
+use Prim.Native.Nat.{ℕ, _+_, _-_, _*_, _/_, _%_, _≤_, _<_}
 use mathlib.Core.Path.{_≡_, refl, sym, ap, _∙_}
-use mathlib.Core.Bool.{Bool, true, false, not, cond}
+use mathlib.Core.Bool.{Bool, true, false, not, cond, false≢true}
 use mathlib.Core.List.{List, [], _∷_, map}
 use native.Mathlib.Omega.{arith}
-use borrow.Author.Tests.{lt-ltb, le-ltb, le-leb, lt-leb}
+use borrow.Author.Tests.{lt-ltb, le-ltb}
 use lib.Dec.{ltb}
-use lib.ListN.{length, length-map}
-use Rattle.rules.specs.Bytes.{isEmpty, exists, firstIndex}
+use lib.ListN.{length, take, drop}
+use Rattle.rules.specs.Bytes.{isEmpty, oneOf, exists, firstIndex}
 use Rattle.rules.specs.Rows.{chop, whole, by}
-use Rattle.rules.specs.Answers.{Answer, done, refused, _when_, answer, order, first, number, refusals, resultOr}
+use Rattle.rules.specs.Answers.{Answer, done, refused, Check, order, number}
 use Rattle.rules.specs.Settings.{candidatesMax, modeOk, modeMeant}
-use Rattle.rules.specs.Choice.{Candidate, Offer, Choice, candidate, badCandidate, badOffer, remaining, chosenFrom, keys, before, choose, better}
+use Rattle.rules.specs.Choice.{Candidate, Choice, offerSize, offer, offers, candidate, badCandidate, badOffer, numberedFrom, leftOf, chosenFrom, keys, before, chooseChecks, chooseIn, better}
+use Rattle.rules.specs.declared.Offer.{Offer}
+use Rattle.rules.specs.declared.Refusal.{Refusal}
 use Rattle.rules.specs.declared.Refusal.the-variants.{BadSetting, BadLength, BadCandidate, NoRoute}
-use Rattle.rules.proofs.Lists.{Past, past-found, past-end}
+use Rattle.rules.proofs.Answers.{Decides, here, past, earlier, answer-decided, answer-passed}
+use Rattle.rules.proofs.Lists.{Past, past-start, past-next, past-found, past-end}
 use Rattle.rules.proofs.Fixed.{whole-mod, not-whole-mod, whole-count}
-use Rattle.choice.specs.Entries.{entryOf, keysOf}
-use Rattle.choice.specs.Offers.{offerSize, offer, offers, chooseIn}
+use Rattle.choice.specs.declared.best.Best.{Best}
+use Rattle.choice.specs.declared.best.Best.the-variants.{Nothing, Route}
+use Rattle.choice.specs.declared.best.BestRoute.{BestRoute}
+use Rattle.choice.specs.Keys.{keysIn, keysOf, listed}
+use Rattle.choice.specs.Bests.{leftIn, taken}
+use Rattle.choice.proofs.Candidates.{lent, lent-is, offers-next, offers-end}
+use Rattle.choice.proofs.Taking.{takenAll, taken-on, taken-left, taken-none, taken-some}
 
--- In order: 5, then 6 for a torn table or too many candidates, 10, 11.
-in-order : (mode torn many bad empty : Bool) (i : ℕ) (x d : Choice)
-    → answer order (BadLength when torn ∷ refusals (answer order (BadSetting when not mode ∷ BadLength when many ∷ BadCandidate i when bad ∷ NoRoute when empty ∷ []) x))
-    (resultOr d (answer order (BadSetting when not mode ∷ BadLength when many ∷ BadCandidate i when bad ∷ NoRoute when empty ∷ []) x))
-    ≡ cond (not mode) (refused BadSetting)
-    (cond torn (refused BadLength)
-    (cond many (refused BadLength)
-    (cond bad (refused (BadCandidate i))
-    (cond empty (refused NoRoute) (done x)))))
-unfolding answer order first number refusals resultOr
-in-order false true n b e i x d = refl
-in-order false false n b e i x d = refl
-in-order true true true b e i x d = refl
-in-order true true false true e i x d = refl
-in-order true true false false true i x d = refl
-in-order true true false false false i x d = refl
-in-order true false true b e i x d = refl
-in-order true false false true e i x d = refl
-in-order true false false false true i x d = refl
-in-order true false false false false i x d = refl
+-- The first `index` candidates of a table s are met: none is bad, at most as many are left, and the best of them with those after
+-- them gives the best of all.
+pub record Met (client : ℕ) (buffer s : List ℕ) (meant : ℕ) (best : Best) (index : ℕ) : Type 0 where
+  pub few : leftIn best ≤ index
+  pub past : Past (badOffer buffer) (offers s) (offers (drop (offerSize * index) s)) index
+  pub gives : takenAll meant client best (numberedFrom index (map (candidate buffer) (offers (drop (offerSize * index) s))))
+      ≡ takenAll meant client Nothing (numberedFrom 0 (map (candidate buffer) (offers s)))
+
+pub met-start : (client : ℕ) (buffer s : List ℕ) (meant : ℕ) → Met client buffer s meant Nothing 0
+unfolding leftIn
+met-start client buffer s meant = record { few = omega arith; past = past-start (offers s); gives = refl }
+
+-- The next candidate is o.
+module _ {client : ℕ} {buffer s : List ℕ} {meant : ℕ} {best : Best} {index : ℕ} (w : Met client buffer s meant best index)
+    (i : index < length s / offerSize) {o : Offer} (q : o ≡ offer (take (offerSize * index + offerSize - offerSize * index) (drop (offerSize * index) s))) where
+  table-next : offers (drop (offerSize * index) s) ≡ o ∷ offers (drop (offerSize * (index + 1)) s)
+  table-next =
+      let n : offerSize * (index + 1) ≡ offerSize * index + offerSize = omega arith in
+      rw (q, n) (offers-next s (offerSize * index) (omega arith))
+
+  pub met-next : badOffer buffer o ≡ false → {b : Best} → b ≡ taken meant client best index (lent buffer o) → Met client buffer s meant b (index + 1)
+  met-next e {b} d =
+      record {
+        few = rw d (omega (arith, taken-left meant client best index (lent buffer o), w .few));
+        past = past-next (rw table-next at (w .past)) e refl;
+        gives = rw (d, lent-is buffer o) (sym (taken-on meant client best index (candidate buffer o) _ refl) ∙ rw table-next at (w .gives));
+      }
+
+-- A check of a later number, of which nothing is asked.
+later : {A : Type 0} → false ≡ true → A
+later e = absurd (false≢true e)
 
 module _ (mode client : ℕ) (buffer s : List ℕ) where
-  left : List Offer → Bool
-  left l = isEmpty (remaining (modeMeant mode) client (map (candidate buffer) l))
+  pub choose-setting : modeOk mode ≡ false → refused BadSetting ≡ chooseIn mode client buffer s
+  unfolding chooseIn chooseChecks order number earlier oneOf exists
+  choose-setting e = sym (answer-decided order _ refl (past later (here refl (rw e refl) (later, (later, (later, tt))))))
 
-  choose-is : chooseIn mode client buffer s
-      ≡ cond (not (modeOk mode)) (refused BadSetting)
-      (cond (not (whole (chop (by offerSize) s))) (refused BadLength)
-      (cond (ltb candidatesMax (length (offers s))) (refused BadLength)
-      (cond (exists (badOffer buffer) (offers s)) (refused (BadCandidate (firstIndex (badOffer buffer) (offers s))))
-      (cond (left (offers s)) (refused NoRoute) (done (chosenFrom (remaining (modeMeant mode) client (map (candidate buffer) (offers s)))))))))
-  unfolding chooseIn choose left
-  choose-is =
-      in-order (modeOk mode) (not (whole (chop (by offerSize) s))) (ltb candidatesMax (length (offers s))) (exists (badOffer buffer) (offers s))
-      (left (offers s)) (firstIndex (badOffer buffer) (offers s)) (chosenFrom (remaining (modeMeant mode) client (map (candidate buffer) (offers s)))) (record { index = 0; left = 0 })
+  module _ (ok : modeOk mode ≡ true) where
+    fine : not (modeOk mode) ≡ false
+    fine = rw ok refl
 
-  pub choose-setting : 3 < mode → refused BadSetting ≡ chooseIn mode client buffer s
-  unfolding modeOk
-  choose-setting h = sym (choose-is ∙ rw (lt-leb mode 3 h) refl)
+    pub choose-torn : (length s % offerSize ≡ 0 → ⊥) → refused BadLength ≡ chooseIn mode client buffer s
+    unfolding chooseIn chooseChecks order number earlier oneOf exists
+    choose-torn h =
+        sym (answer-decided order _ refl (here refl (rw (not-whole-mod offerSize (omega arith) s h) refl) (λ z. fine, (later, (later, (later, tt))))))
 
-  module _ (ok : mode ≤ 3) where
-    pub choose-torn : (length s % 17 ≡ 0 → ⊥) → refused BadLength ≡ chooseIn mode client buffer s
-    unfolding modeOk
-    choose-torn h = sym (choose-is ∙ rw (le-leb mode 3 ok, not-whole-mod 17 (omega arith) s h) refl)
+    module _ (m : length s % offerSize ≡ 0) where
+      untorn : not (whole (chop (by offerSize) s)) ≡ false
+      untorn = rw (whole-mod offerSize (omega arith) s m) refl
 
-    module _ (m : length s % 17 ≡ 0) where
-      count : length s ≡ 17 * length (offers s)
+      count : length s ≡ offerSize * length (offers s)
       unfolding offers
-      count = whole-count offer 17 (omega arith) s m
+      count = whole-count offer offerSize (omega arith) s m
 
-      pub choose-many : 1088 < length s → refused BadLength ≡ chooseIn mode client buffer s
-      unfolding modeOk
+      pub choose-many : candidatesMax < length s / offerSize → refused BadLength ≡ chooseIn mode client buffer s
+      unfolding chooseIn chooseChecks order number earlier oneOf exists
       choose-many h =
-          sym (choose-is ∙ rw (le-leb mode 3 ok, whole-mod 17 (omega arith) s m, lt-ltb candidatesMax (length (offers s)) (omega (arith, count))) refl)
+          sym (answer-decided order _ refl
+          (past (λ z. untorn) (past (λ z. fine) (here refl (lt-ltb candidatesMax (length (offers s)) (omega (arith, count))) (later, (later, tt))))))
 
-      module _ (h : length s ≤ 1088) where
+      module _ (h : length s / offerSize ≤ candidatesMax) {meant : ℕ} {best : Best} {index : ℕ} (w : Met client buffer s meant best index) where
         few : ltb candidatesMax (length (offers s)) ≡ false
         few = le-ltb candidatesMax (length (offers s)) (omega (arith, count))
 
-        pub choose-bad : {o : Offer} {l : List Offer} {index : ℕ} → Past (badOffer buffer) (offers s) (o ∷ l) index → badOffer buffer o ≡ true
+        pub choose-bad : (i : index < length s / offerSize) {o : Offer}
+            → o ≡ offer (take (offerSize * index + offerSize - offerSize * index) (drop (offerSize * index) s)) → badOffer buffer o ≡ true
             → refused (BadCandidate index) ≡ chooseIn mode client buffer s
-        unfolding modeOk
-        choose-bad P b =
-            let f = past-found P b in
-            sym (choose-is ∙ rw (le-leb mode 3 ok, whole-mod 17 (omega arith) s m, few, f .0, f .1) refl)
+        unfolding chooseIn chooseChecks order number earlier oneOf exists
+        choose-bad i q e =
+            let f = past-found (rw (table-next w i q) at (w .past)) e in
+            sym (answer-decided order {r = BadCandidate index} _ refl
+            (past (λ z. untorn) (past (λ z. fine) (past (λ z. few) (here (ap BadCandidate (f .1)) (f .0) (later, tt))))))
 
-        module _ {index : ℕ} (P : Past (badOffer buffer) (offers s) [] index) where
-          pub choose-none : isEmpty (remaining (modeMeant mode) client (map (candidate buffer) (offers s))) ≡ true
-              → refused NoRoute ≡ chooseIn mode client buffer s
-          unfolding modeOk left
+        -- At the end of the table.
+        module _ (i : length s / offerSize ≤ index) (z : meant ≡ modeMeant mode) where
+          end : offers (drop (offerSize * index) s) ≡ []
+          end = offers-end s (offerSize * index) (omega arith)
+
+          sound : exists (badOffer buffer) (offers s) ≡ false
+          sound = past-end (rw end at (w .past)) .0
+
+          all : best ≡ takenAll (modeMeant mode) client Nothing (numberedFrom 0 (map (candidate buffer) (offers s)))
+          unfolding takenAll numberedFrom
+          all = rw (end, z) at (w .gives)
+
+          pub choose-none : best ≡ Nothing → refused NoRoute ≡ chooseIn mode client buffer s
+          unfolding chooseIn chooseChecks leftOf order number earlier oneOf exists
           choose-none e =
-              sym (choose-is ∙ rw (le-leb mode 3 ok, whole-mod 17 (omega arith) s m, few, past-end P .0, e) refl)
+              sym (answer-decided order {r = NoRoute} _ refl
+              (past (λ y. untorn) (past (λ y. fine) (past (λ y. few) (past (λ y. sound) (here refl (taken-none (modeMeant mode) client _ (sym e ∙ all)) tt))))))
 
-          pub choose-some : {x : Choice} → isEmpty (remaining (modeMeant mode) client (map (candidate buffer) (offers s))) ≡ false
-              → x ≡ chosenFrom (remaining (modeMeant mode) client (map (candidate buffer) (offers s))) → done x ≡ chooseIn mode client buffer s
-          unfolding modeOk left
-          choose-some e q =
-              sym (choose-is ∙ rw (le-leb mode 3 ok, whole-mod 17 (omega arith) s m, few, past-end P .0, e, q) refl)
+          pub choose-some : {b : BestRoute} → best ≡ Route b → done (record { index = b .index; left = b .left }) ≡ chooseIn mode client buffer s
+          unfolding chooseIn chooseChecks leftOf
+          choose-some e =
+              let f = taken-some (modeMeant mode) client (map (candidate buffer) (offers s)) (sym e ∙ all) in
+              ap done (f .1)
+              ∙ sym (answer-passed order (_ ∷ chooseChecks mode client buffer (offers s)) _ (λ y. untorn, (λ y. fine, (λ y. few, (λ y. sound, (λ y. f .0, tt))))))
 
 -- Comparing two.
 module _ (a b : Candidate) where
   pub better-first : badCandidate a ≡ true → better a b ≡ refused (BadCandidate 0)
-  unfolding better answer order first number
-  better-first e = rw e refl
+  unfolding better order number earlier oneOf exists
+  better-first e = answer-decided order {r = BadCandidate 0} _ refl (here refl e (later, tt))
 
   pub better-second : badCandidate a ≡ false → badCandidate b ≡ true → better a b ≡ refused (BadCandidate 1)
-  unfolding better answer order first number
-  better-second e f = rw (e, f) refl
+  unfolding better order number earlier oneOf exists
+  better-second e f = answer-decided order {r = BadCandidate 1} _ refl (past (λ z. e) (here refl f tt))
 
-  pub better-neither : badCandidate a ≡ false → badCandidate b ≡ false → {t : Bool} → before (keysOf (entryOf b)) (keysOf (entryOf a)) ≡ t
+  pub better-neither : badCandidate a ≡ false → badCandidate b ≡ false → {t : Bool} → before (listed (keysOf b)) (listed (keysOf a)) ≡ t
       → better a b ≡ done (cond t 1 0)
-  unfolding better keys keysOf entryOf answer order first number
-  better-neither e f q = rw (e, f, q) refl
+  unfolding better keys keysIn listed
+  better-neither e f q = answer-passed order _ _ (λ z. e, (λ z. f, tt)) ∙ rw q refl

@@ -1,16 +1,16 @@
--- The order of routes by their keys, removals and classes, each as the code tests it.
-use Prim.Native.Nat.{ℕ, zero, suc}
+-- The order of routes by their keys, and their classes, each as the code tests it.
+use Prim.Native.Nat.{ℕ, zero, suc, _≤_}
 use mathlib.Core.Path.{_≡_, refl, sym, _∙_}
-use mathlib.Core.Bool.{Bool, true, false, _&&_, _||_, or-false}
+use mathlib.Core.Bool.{Bool, true, false, cond, _&&_, _||_, or-false}
 use mathlib.Core.List.{List, [], _∷_}
+use native.Mathlib.Omega.{arith}
+use native.Mathlib.Nat.{le-refl}
 use borrow.Author.Tests.{eq-eqb, ne-eqb, le-ltb}
 use lib.Dec.{ltb, eqb}
 use lib.ListN.{getD}
-use Rattle.rules.specs.Settings.{dropInvalid, prioritise, invalid}
+use Rattle.rules.specs.Settings.{prioritise}
 use Rattle.rules.specs.Choice.{before}
-use native.Mathlib.Nat.{le-refl}
-use Rattle.choice.specs.declared.entry.Entry.{Entry}
-use Rattle.choice.specs.Entries.{isRemoved, rank}
+use Rattle.choice.specs.Bests.{rank}
 
 -- The first key decides where it differs, else those after it.
 module _ (x y : ℕ) (xs ys : List ℕ) where
@@ -31,26 +31,6 @@ before-last x y = go (ltb x y) (eqb x y)
     go false true = refl
     go false false = refl
 
--- Removals, in their order.
-module _ (mode client : ℕ) (e : Entry) where
-  pub removed-otc : e .otc ≡ 1 → true ≡ isRemoved mode client e
-  unfolding isRemoved
-  removed-otc o = rw o refl
-
-  module _ (o : e .otc ≡ 1 → ⊥) where
-    pub removed-own : e .address ≡ client → true ≡ isRemoved mode client e
-    unfolding isRemoved
-    removed-own a = rw (ne-eqb (e .otc) 1 o, eq-eqb (e .address) client a) refl
-
-    module _ (a : e .address ≡ client → ⊥) where
-      pub removed-mode : (mode ≡ dropInvalid → ⊥) → false ≡ isRemoved mode client e
-      unfolding isRemoved
-      removed-mode m = rw (ne-eqb (e .otc) 1 o, ne-eqb (e .address) client a, ne-eqb mode dropInvalid m) refl
-
-      pub removed-state : mode ≡ dropInvalid → eqb (e .state) invalid ≡ isRemoved mode client e
-      unfolding isRemoved
-      removed-state m = rw (ne-eqb (e .otc) 1 o, ne-eqb (e .address) client a, eq-eqb mode dropInvalid m) refl
-
 -- Classes: one for all, or those of the states, of which the last is that of every other state.
 module _ (mode state : ℕ) where
   pub rank-one : (mode ≡ prioritise → ⊥) → 0 ≡ rank mode state
@@ -60,6 +40,18 @@ module _ (mode state : ℕ) where
   pub rank-class : mode ≡ prioritise → {n : ℕ} → n ≡ getD (0 ∷ 1 ∷ 2 ∷ 1 ∷ []) state 2 → n ≡ rank mode state
   unfolding rank
   rank-class e q = q ∙ rw (eq-eqb mode prioritise e) refl
+
+  pub rank-top : rank mode state ≤ 2
+  unfolding rank
+  rank-top = go (eqb mode prioritise) state
+    where
+      go : (x : Bool) (n : ℕ) → cond x (getD (0 ∷ 1 ∷ 2 ∷ 1 ∷ []) n 2) 0 ≤ 2
+      go false n = omega arith
+      go true zero = omega arith
+      go true (suc zero) = omega arith
+      go true (suc (suc zero)) = omega arith
+      go true (suc (suc (suc zero))) = omega arith
+      go true (suc (suc (suc (suc n)))) = omega arith
 
 pub class-last : (state : ℕ) → (state ≡ 0 → ⊥) → (state ≡ 1 → ⊥) → (state ≡ 3 → ⊥) → _≡_ {A = ℕ} 2 (getD (0 ∷ 1 ∷ 2 ∷ 1 ∷ []) state 2)
 class-last zero a b c = absurd (a refl)

@@ -1,27 +1,49 @@
 -- The best route so far, and what one candidate more makes of it.
 use Prim.Native.Nat.{ℕ, _+_}
-use mathlib.Core.Bool.{cond}
+use mathlib.Core.Bool.{Bool, cond, _&&_, _||_}
+use mathlib.Core.List.{[], _∷_}
 use lib.Dec.{ltb, eqb}
-use Rattle.rules.specs.Choice.{before}
-use Rattle.choice.specs.declared.entry.Entry.{Entry}
-use Rattle.choice.specs.declared.order.Best.{Best}
-use Rattle.choice.specs.Entries.{unfitEntry, keysOf, isRemoved, rank}
+use lib.ListN.{getD}
+use Rattle.rules.specs.Settings.{dropInvalid, prioritise, invalid}
+use Rattle.rules.specs.Attributes.{attributes, hasOtc}
+use Rattle.rules.specs.Choice.{Candidate, before}
+use Rattle.choice.specs.declared.keys.Keys.{Keys}
+use Rattle.choice.specs.declared.best.Best.{Best}
+use Rattle.choice.specs.declared.best.Best.the-variants.{Nothing, Route}
+use Rattle.choice.specs.declared.best.BestRoute.{BestRoute}
+use Rattle.choice.specs.Keys.{keysOf, listed}
 
--- No route, with the highest class.
-unfoldable pub none : Best
-none = record { left = 0; rank = 2; index = 0; entry = unfitEntry }
+-- The removals that look at one candidate alone: "blocks with an OTC; routes from the client's own address; in mode 2, state 2"
+unfoldable pub isRemoved : ℕ → ℕ → Bool → ℕ → ℕ → Bool
+isRemoved mode client otc state address = otc || eqb address client || (eqb mode dropInvalid && eqb state invalid)
 
--- With the candidate of this class, index and entry as the best of this many.
-unfoldable pub with : ℕ → ℕ → ℕ → Entry → Best
-with left rank index entry = record { left = left; rank = rank; index = index; entry = entry }
+-- The class of a state in mode 3, and one class for all in the others.
+unfoldable pub rank : ℕ → ℕ → ℕ
+rank mode state = cond (eqb mode prioritise) (getD (0 ∷ 1 ∷ 2 ∷ 1 ∷ []) state 2) 0
+
+-- The route of this class, index and keys as the best of this many.
+unfoldable pub with : ℕ → ℕ → ℕ → Keys → BestRoute
+with left rank index keys = record { left = left; rank = rank; index = index; keys = keys }
 
 -- A lower class takes the place of all before it; a higher one is passed by; within one the order decides, and a tie stays.
-unfoldable pub met : Best → ℕ → ℕ → Entry → Best
-met best rank index entry =
+unfoldable pub met : BestRoute → ℕ → ℕ → Keys → BestRoute
+met best rank index keys =
     cond (ltb (best .rank) rank) best
-    (cond (ltb rank (best .rank)) (with 1 rank index entry)
-    (cond (eqb (best .left) 0) (with (best .left + 1) rank index entry)
-    (cond (before (keysOf entry) (keysOf (best .entry))) (with (best .left + 1) rank index entry) (with (best .left + 1) rank (best .index) (best .entry)))))
+    (cond (ltb rank (best .rank)) (with 1 rank index keys)
+    (cond (before (listed keys) (listed (best .keys))) (with (best .left + 1) rank index keys) (with (best .left + 1) rank (best .index) (best .keys))))
 
-unfoldable pub taken : ℕ → ℕ → Best → ℕ → Entry → Best
-taken mode client best index entry = cond (isRemoved mode client entry) best (met best (rank mode (entry .state)) index entry)
+-- The first candidate that is met is the best.
+unfoldable pub meets : Best → ℕ → ℕ → Keys → Best
+meets Nothing rank index keys = Route (with 1 rank index keys)
+meets (Route best) rank index keys = Route (met best rank index keys)
+
+-- How many are left.
+unfoldable pub leftIn : Best → ℕ
+leftIn Nothing = 0
+leftIn (Route best) = best .left
+
+-- One candidate more, of this index: removed, or met.
+unfoldable pub taken : ℕ → ℕ → Best → ℕ → Candidate → Best
+taken mode client best index c =
+    cond (isRemoved mode client (hasOtc (attributes (c .block))) (c .state) (c .address)) best
+    (meets best (rank mode (c .state)) index (keysOf c))

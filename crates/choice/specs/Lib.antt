@@ -1,5 +1,3 @@
--- What choosing keeps of candidates, and how they come as bytes.
-pub mod Entries
+-- What choosing keeps of a candidate, and of the candidates met so far.
+pub mod Keys
 pub mod Bests
-pub mod Offers
-pub mod Winner

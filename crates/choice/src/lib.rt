@@ -2,51 +2,73 @@
 //
 // Candidates come as a table of 17 bytes each, numbers high byte first: where the block begins in the buffer 4, how many bytes it
 // has 4, state 1, the sender's identifier 4 and address 4.
-pub mod entry;
-pub mod order;
+pub mod best;
+pub mod keys;
+pub mod offers;
 
-use entry::examine;
-use entry::examine_offer;
-use order::goes_before;
+use attributes::layout::Reading;
+use attributes::read;
+use best::Best;
+use best::take;
+use keys::Sender;
+use keys::goes_before;
+use keys::keys_of;
+use offers::OFFER_SIZE;
+use offers::out_of_range;
+use offers::read_offer;
 use rules::CANDIDATES_MAX;
 use rules::Chosen;
 use rules::Refusal;
 use settings::modes::mode_meant;
+use settings::ranges::mode_ok;
 ghost use mathlib.Core.Path.{_≡_};
-ghost use Rattle.rules.specs.Choice.{better, toldChosen};
-ghost use Rattle.choice.specs.Offers.{chooseIn};
-ghost use Rattle.choice.specs.Winner.{Compared};
+ghost use Rattle.rules.specs.Choice.{chooseIn, better, toldChosen, Compared};
+
+// The number of answer 10.
+const BAD_CANDIDATE: u8 = 10;
 
 // The route for the client with this address, among the candidates of a table.
 pub fn choose(mode: u8, client: u32, buffer: &[u8], offers: &[u8]) -> Chosen
     ensures { λ r. ⌜ toldChosen r ≡ chooseIn mode client (now (buffer .entry)) (now (offers .entry)) ⌝ }
 {
-    if 3 < mode {
+    if !mode_ok(mode) {
         return Chosen::Refused(Refusal::BadSetting);
     }
-    if offers.len() % 17 != 0 {
+    if offers.len() % OFFER_SIZE != 0 {
         return Chosen::Refused(Refusal::BadLength);
     }
-    if 17 * CANDIDATES_MAX < offers.len() {
+    let count = offers.len() / OFFER_SIZE;
+    if CANDIDATES_MAX < count {
         return Chosen::Refused(Refusal::BadLength);
     }
     let meant = mode_meant(mode);
-    let mut best = order::nothing();
-    let mut at = 0;
-    while 17 <= offers.len() - at {
-        let entry = examine_offer(buffer, &offers[at..at + 17]);
-        if entry.fit == 0 {
-            return Chosen::Refused(Refusal::BadCandidate(at / 17));
+    let mut best = Best::Nothing;
+    let mut index = 0;
+    while index < count {
+        let at = OFFER_SIZE * index;
+        let offer = read_offer(&offers[at..at + OFFER_SIZE]);
+        let start = offer.start as usize;
+        let end = start + offer.size as usize;
+        if buffer.len() < end {
+            return Chosen::Refused(Refusal::BadCandidate(index));
         }
-        best = order::take(best, meant, client, at / 17, entry);
-        at += 17;
+        let block = &buffer[start..end];
+        if out_of_range(block.len(), offer.state) {
+            return Chosen::Refused(Refusal::BadCandidate(index));
+        }
+        let reading = read(block);
+        let Reading::Clean(layout) = reading else {
+            return Chosen::Refused(Refusal::BadCandidate(index));
+        };
+        best = take(best, meant, client, index, offer, block, layout);
+        index += 1;
     }
-    if best.left == 0 {
+    let Best::Route(route) = best else {
         return Chosen::Refused(Refusal::NoRoute);
-    }
+    };
     Chosen::Route {
-        index: best.index,
-        left: best.left,
+        index: route.index,
+        left: route.left,
     }
 }
 
@@ -54,30 +76,34 @@ pub fn choose(mode: u8, client: u32, buffer: &[u8], offers: &[u8]) -> Chosen
 // with the index of the first bad one; then the block shown is empty.
 pub fn better<'a>(
     a: &'a [u8],
-    state: u8,
-    identifier: u32,
-    address: u32,
+    sender: Sender,
     b: &'a [u8],
-    other_state: u8,
-    other_identifier: u32,
-    other_address: u32,
+    other: Sender,
     answer: &mut u8,
     index: &mut usize,
 ) -> &'a [u8]
-    ensures { λ r. ⌜ Compared (better (record { block = now (a .entry); state = state; identifier = identifier; address = address }) (record { block = now (b .entry); state = «other_state»; identifier = «other_identifier»; address = «other_address» })) (a .entry) (b .entry) r (now (answer .exit)) (now (index .exit)) ⌝ }
+    ensures { λ r. ⌜ Compared (better (record { block = now (a .entry); state = sender .state; identifier = sender .identifier; address = sender .address }) (record { block = now (b .entry); state = other .state; identifier = other .identifier; address = other .address })) (a .entry) (b .entry) r (now (answer .exit)) (now (index .exit)) ⌝ }
 {
-    *answer = 10;
+    *answer = BAD_CANDIDATE;
     *index = 0;
-    let x = examine(a, state, identifier, address);
-    if x.fit == 0 {
+    if out_of_range(a.len(), sender.state) {
         return &a[..0];
     }
+    let reading = read(a);
+    let Reading::Clean(layout) = reading else {
+        return &a[..0];
+    };
     *index = 1;
-    let y = examine(b, other_state, other_identifier, other_address);
-    if y.fit == 0 {
+    if out_of_range(b.len(), other.state) {
         return &a[..0];
     }
+    let second = read(b);
+    let Reading::Clean(places) = second else {
+        return &a[..0];
+    };
     *answer = 0;
+    let x = keys_of(a, layout, sender.identifier, sender.address);
+    let y = keys_of(b, places, other.identifier, other.address);
     if goes_before(y, x) {
         return b;
     }

@@ -1,16 +1,24 @@
 // The desk program: reads standard input to its end, hands it to the byte machine of `desk_lines`, and writes what that says.
 // Nothing is known here of what the bytes mean. That those read and written are those handed over is tested, not proved.
-use desk_lines::State;
 use desk_lines::begin;
 use desk_lines::feed;
 use desk_lines::finish;
+use desk_lines::sizes::FRAME_MAX;
+use desk_lines::sizes::RESULT_MAX;
+use desk_lines::sizes::TABLE_MAX;
+use desk_lines::state::State;
 use libc::STDERR_FILENO;
 use libc::STDIN_FILENO;
 use libc::STDOUT_FILENO;
+use text::lines::HELD_MAX;
 ghost use mathlib.Core.Path.{_≡_};
 ghost use Prim.Native.Nat.{_+_, _<_, _≤_, _^_};
 ghost use lib.ListN.{length};
-ghost use Rattle.desk_lines.specs.Machine.{Ready};
+ghost use Rattle.desk_lines.specs.Sizes.{answerMax};
+ghost use Rattle.desk_lines.specs.Machine.{Ready, Lent};
+
+// The bytes that are read, and written, at once at most.
+const PIECE_MAX: usize = 65536;
 
 // What handing over a piece gives: whether all that it says was written, and the state after it, with nothing left to write.
 struct Handed {
@@ -41,8 +49,10 @@ fn hand_over(
     table: &mut [u8],
     out: &mut [u8],
 ) -> Handed
-    requires { ⌜ (Ready state (now table) (now line)) × (state .number + length (now piece) < 2 ^ 64) × (length (now raw) ≡ 4096) × (length (now made) ≡ 4074) × (state .wrote ≡ 0) × (8192 ≤ length (now out)) ⌝ }
-    ensures { λ r. ⌜ (Ready (r .state) (now (table .exit)) (now (line .exit))) × (r .state .number ≤ state .number + length (now (piece .entry))) × (r .state .wrote ≡ 0) ⌝ }
+    requires { ⌜ (Ready state (now table) (now line)) × (state .number + length (now piece) < 2 ^ 64)
+        × (Lent (now raw) (now made) (now out) answerMax) × (state .wrote ≡ 0) ⌝ }
+    ensures { λ r. ⌜ (Ready (r .state) (now (table .exit)) (now (line .exit)))
+        × (r .state .number ≤ state .number + length (now (piece .entry))) × (r .state .wrote ≡ 0) ⌝ }
 {
     let mut at = 0;
     let mut now = state;
@@ -92,12 +102,12 @@ fn say_unread() {
 // Answers standard input line by line. Nothing says that an input ends, so the turns are counted down from a number that no run
 // uses up.
 fn main() {
-    let mut chunk = [0u8; 65536];
-    let mut line = [0u8; 8193];
-    let mut raw = [0u8; 4096];
-    let mut made = [0u8; 4074];
-    let mut table = [0u8; 40960];
-    let mut out = [0u8; 65536];
+    let mut chunk = [0u8; PIECE_MAX];
+    let mut line = [0u8; HELD_MAX];
+    let mut raw = [0u8; FRAME_MAX];
+    let mut made = [0u8; RESULT_MAX];
+    let mut table = [0u8; TABLE_MAX];
+    let mut out = [0u8; PIECE_MAX];
     let mut state = begin();
     let mut turns: u64 = 140737488355328;
     while 0 < turns {

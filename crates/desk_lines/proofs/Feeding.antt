@@ -1,106 +1,131 @@
--- What feeding promises, put together: nothing fed, one piece after another, a line held and a line answered.
-use Prim.Native.Nat.{ℕ, suc, _+_, _-_, _≤_, _<_}
+-- What feeding promises, put together: nothing fed, one piece after another, a line held and a line answered, and the end.
+use Prim.Native.Nat.{ℕ, _+_, _-_, _≤_, _<_}
 use mathlib.Core.Path.{_≡_, refl, sym, ap, _∙_, subst}
-use mathlib.Core.List.{List, [], _∷_, _++_, append-assoc}
-use native.Mathlib.Numerals.{add-one}
+use mathlib.Core.Bool.{true, false}
+use mathlib.Core.List.{List, [], _∷_, _++_}
 use native.Mathlib.Omega.{arith}
-use lib.ListN.{length, take, drop, getD, length-append}
-use lib.Seq.{take-suc, take-add, length-take-le}
-use Rattle.rules.specs.Desk.{lines, deskFrom, outputLine, lineAnswer, lineFeed}
-use Rattle.octets.proofs.Slices.{tail-is}
+use lib.ListN.{length, take, drop, length-append}
+use lib.Seq.{take-add}
+use Rattle.rules.specs.Desk.{lineAnswer, lineNext}
+use Rattle.octets.proofs.Slices.{tail-is, tail-length}
 use Rattle.octets.proofs.Writing.{stored-none, stored-then}
-use Rattle.desk_lines.specs.declared.State.{State}
-use Rattle.desk_lines.specs.Keeping.{deskOf}
-use Rattle.desk_lines.specs.Machine.{future, NoFeed, Ready, Answered, Fed}
-use Rattle.desk_lines.proofs.Lining.{free-append, free-take, held-stands, feed-answers, end-none, end-answers}
+use Rattle.text.specs.declared.lines.Cut.{Cut}
+use Rattle.text.specs.Lines.{Took}
+use Rattle.text.specs.Feeding.{Capped}
+use Rattle.text.proofs.Spelling.{unreadable-long}
+use Rattle.text.proofs.Lining.{holds-none}
+use Rattle.text.proofs.Feeding.{feeds-none, feeds-then, feeds-held, feeds-answered, end-none, end-answers}
+use Rattle.desk_lines.specs.declared.state.Progress.{Progress}
+use Rattle.desk_lines.specs.declared.state.State.{State}
+use Rattle.desk_lines.specs.Sizes.{answerMax}
+use Rattle.desk_lines.specs.Machine.{deskSays, deskNext, turnOf, future, Ready, Answered, Fed, Progressed}
+
+-- A line over 8,192 digits is answered 12 and changes nothing, whatever it holds.
+desk-capped : Capped deskSays deskNext
+unfolding deskSays deskNext lineAnswer lineNext
+desk-capped =
+    record {
+      alike = λ t p q h k. (rw (← unreadable-long p h, ← unreadable-long q k) refl, rw (← unreadable-long p h, ← unreadable-long q k) refl);
+    }
 
 -- Nothing is fed.
-pub fed-none : (s : State) (table line out : List ℕ) → Ready s table line → Fed s table line out [] s table line out
+fed-none : (s : State) (table line out : List ℕ) → Ready s table line → Fed s table line out [] s table line out
 fed-none s table line out r =
-    record { said = []; stored = stored-none out (s .wrote) refl; gives = λ rest. refl; ready = r; count = omega arith }
+    record {
+      said = [];
+      stored = stored-none out (s .wrote) refl;
+      feeds = feeds-none (turnOf s table) (take (s .held) line);
+      ready = r;
+      count = omega arith;
+    }
 
 -- One piece after another.
-pub fed-then : {s s′ s″ : State} {t l o t′ l′ o′ t″ l″ o″ p q : List ℕ} → s .wrote ≤ length o
+fed-then : {s s′ s″ : State} {t l o t′ l′ o′ t″ l″ o″ p q : List ℕ} → s .wrote ≤ length o
     → Fed s t l o p s′ t′ l′ o′ → Fed s′ t′ l′ o′ q s″ t″ l″ o″ → Fed s t l o (p ++ q) s″ t″ l″ o″
 fed-then {p = p} {q = q} h F G =
     record {
       said = F .said ++ G .said;
       stored = stored-then h (F .stored) (G .stored);
-      gives = λ rest. rw (append-assoc p q rest) (F .gives (q ++ rest) ∙ ap (λ (l : List ℕ). F .said ++ l) (G .gives rest) ∙ sym (append-assoc (F .said) (G .said) _));
+      feeds = feeds-then (F .feeds) (G .feeds);
       ready = G .ready;
       count = omega (arith, F .count, G .count, length-append p q);
     }
 
--- A line that has begun, with the bytes x more.
-module _ (s : State) (table line x : List ℕ) (r : Ready s table line) (f : NoFeed x) (held : ℕ) (line′ : List ℕ)
-    (h : take held line′ ≡ take 8193 (take (s .held) line ++ x)) (z : length line′ ≡ 8193) where
-  begun : List ℕ
-  begun = take (s .held) line ++ x
-
-  begun-free : NoFeed begun
-  unfolding begun
-  begun-free = free-append (take (s .held) line) x (r .free) f
-
-  -- It has not ended: it is held.
-  pub fed-held : (out : List ℕ) → held ≤ 8193
-      → Fed s table line out x (record { number = s .number; held = held; wrote = s .wrote; kept = s .kept }) table line′ out
-  unfolding future begun
-  fed-held out le =
+-- What one cut took of a piece: it is held, or the line has ended and was answered.
+module _ (s : State) (table : List ℕ) {line piece line′ : List ℕ} {r : Cut} (R : Ready s table line) (t : Took line (s .held) piece r line′) where
+  pub fed-held : (out : List ℕ) → s .wrote ≤ length out → r .ended ≡ false
+      → Progressed s table line out piece (record { taken = r .taken; state = record { number = s .number; held = r .held; wrote = s .wrote; kept = s .kept } })
+      table line′ out
+  unfolding turnOf
+  fed-held out h e =
       record {
-        said = [];
-        stored = stored-none out (s .wrote) refl;
-        gives = λ rest.
-            ap (λ (l : List ℕ). deskFrom (suc (s .number)) (deskOf (s .kept) table) (lines l)) (sym (append-assoc (take (s .held) line) x rest))
-            ∙ held-stands (suc (s .number)) (deskOf (s .kept) table) begun rest begun-free
-            ∙ ap (λ (l : List ℕ). deskFrom (suc (s .number)) (deskOf (s .kept) table) (lines (l ++ rest))) (sym h);
-        ready = record { size = z; held = le; free = rw h (free-take 8193 begun begun-free); keeps = r .keeps };
-        count = omega arith;
+        fed =
+            record {
+              said = [];
+              stored = stored-none out (s .wrote) refl;
+              feeds = feeds-held desk-capped (turnOf s table) (R .holds) t e;
+              ready = record { holds = t .holds; keeps = R .keeps };
+              count = omega arith;
+            };
+        within = t .within;
+        room = h;
+        some = λ n k. t .some n;
       }
 
-  -- It has ended, and was answered.
-  pub fed-answered : {out : List ℕ} {s′ : State} {table′ out′ : List ℕ} → Answered s table (take held line′) out s′ table′ out′
-      → Fed s table line out (x ++ (lineFeed ∷ [])) s′ table′ line′ out′
-  unfolding future begun
-  fed-answered {out} {s′} {table′} {out′} A =
-      let d = deskOf (s .kept) table in
+  pub fed-answered : {out : List ℕ} {s′ : State} {table′ out′ : List ℕ} → s .wrote + answerMax ≤ length out → r .ended ≡ true
+      → Answered s table (take (r .held) line′) out s′ table′ out′ → Progressed s table line out piece (record { taken = r .taken; state = s′ }) table′ line′ out′
+  fed-answered h e A =
+      let n : length (take (r .taken) piece) ≡ length (t .more) + 1 = ap length (t .ended e) ∙ length-append (t .more) (10 ∷ []) in
       record {
-        said = outputLine (suc (s .number)) (lineAnswer d (take held line′));
-        stored = A .said;
-        gives = λ rest.
-            ap (λ (l : List ℕ). deskFrom (suc (s .number)) d (lines l)) (joined rest)
-            ∙ feed-answers (suc (s .number)) d begun rest begun-free
-            ∙ rw (sym h, sym (A .next), A .held, A .number, add-one (s .number)) refl;
-        ready = record { size = z; held = omega (arith, A .held); free = rw (A .held) tt; keeps = A .keeps };
-        count = omega (arith, A .number, length-append x (lineFeed ∷ []));
+        fed =
+            record {
+              said = deskSays (turnOf s table) (take (r .held) line′);
+              stored = A .said;
+              feeds = rw (A .next, A .held) (feeds-answered desk-capped (turnOf s table) (R .holds) t e);
+              ready = record { holds = rw (A .held) (holds-none (t .holds .size)); keeps = A .keeps };
+              count = omega (arith, A .number);
+            };
+        within = t .within;
+        room = omega (arith, A .room);
+        some = λ n k. t .some n;
       }
+
+-- Of a piece x the bytes before `at` are fed; where that is none, nothing is written.
+pub record Feeding (s : State) (t l o x : List ℕ) (at : ℕ) (s′ : State) (t′ l′ o′ : List ℕ) : Type 0 where
+  pub fed : Fed s t l o (take at x) s′ t′ l′ o′
+  pub within : at ≤ length x
+  pub wrote : at ≡ 0 → s′ .wrote ≡ s .wrote
+
+pub feeding-start : {s : State} {t l : List ℕ} (o x : List ℕ) → Ready s t l → Feeding s t l o x 0 s t l o
+feeding-start {s} {t} {l} o x R = record { fed = fed-none s t l o R; within = omega arith; wrote = λ e. refl }
+
+module _ {s s′ : State} {t l o x t′ l′ o′ : List ℕ} {at : ℕ} (F : Feeding s t l o x at s′ t′ l′ o′) where
+  -- The next bytes, of those that `&x[at..]` lends, are fed.
+  pub feeding-on : {r : Progress} {t″ l″ o″ : List ℕ} → s .wrote ≤ length o → 0 < r .taken
+      → Progressed s′ t′ l′ o′ (take (length x - at) (drop at x)) r t″ l″ o″ → Feeding s t l o x (at + r .taken) (r .state) t″ l″ o″
+  feeding-on {r} {t″} {l″} {o″} h n P =
+      record {
+        fed =
+            subst (λ (p : List ℕ). Fed s t l o p (r .state) t″ l″ o″)
+            (sym (take-add at (r .taken) x ∙ ap (λ (q : List ℕ). take at x ++ take (r .taken) q) (sym (tail-is x at)))) (fed-then h (F .fed) (P .fed));
+        within = omega (arith, P .within, tail-length x at, F .within);
+        wrote = λ e. absurd (omega (arith, n, e));
+      }
+
+  -- The bytes are all fed, or there was no room for an answer.
+  pub feeding-end : s′ .wrote ≤ length o → (at ≡ 0 → s′ .wrote ≡ s .wrote → 0 < length x → s .wrote + answerMax ≤ length o → ⊥)
+      → Progressed s t l o x (record { taken = at; state = s′ }) t′ l′ o′
+  feeding-end h stop = record { fed = F .fed; within = F .within; room = h; some = λ a b. positive at (λ e. stop e (F .wrote e) a b) }
     where
-      joined : (rest : List ℕ) → take (s .held) line ++ ((x ++ (lineFeed ∷ [])) ++ rest) ≡ begun ++ (lineFeed ∷ rest)
-      joined rest = rw (append-assoc x (lineFeed ∷ []) rest) (sym (append-assoc (take (s .held) line) x (lineFeed ∷ rest)))
-
--- The bytes up to a line feed, with it, are one byte more than those before it.
-pub fed-piece : (x : List ℕ) (n : ℕ) → n < length x → (n < length x → getD x n 0 ≡ lineFeed) → {s : State} {t l o : List ℕ} {s′ : State} {t′ l′ o′ : List ℕ}
-    → Fed s t l o (take n x ++ (lineFeed ∷ [])) s′ t′ l′ o′ → Fed s t l o (take (n + 1) x) s′ t′ l′ o′
-fed-piece x n h e {s} {t} {l} {o} {s′} {t′} {l′} {o′} F =
-    subst (λ (p : List ℕ). Fed s t l o p s′ t′ l′ o′)
-    (sym (rw (add-one n) (take-suc x n 0 h) ∙ ap (λ (b : ℕ). take n x ++ (b ∷ [])) (e h))) F
-
--- The next bytes of a piece, which `&x[at..]` lends, after those before `at`.
-pub fed-on : (x : List ℕ) (at k : ℕ) {s s′ s″ : State} {t l o t′ l′ o′ t″ l″ o″ : List ℕ} → s .wrote ≤ length o
-    → Fed s t l o (take at x) s′ t′ l′ o′ → Fed s′ t′ l′ o′ (take k (take (length x - at) (drop at x))) s″ t″ l″ o″
-    → Fed s t l o (take (at + k) x) s″ t″ l″ o″
-fed-on x at k {s} {s′} {s″} {t} {l} {o} {t′} {l′} {o′} {t″} {l″} {o″} h F G =
-    subst (λ (p : List ℕ). Fed s t l o p s″ t″ l″ o″)
-    (sym (take-add at k x ∙ ap (λ (q : List ℕ). take at x ++ take k q) (sym (tail-is x at)))) (fed-then h F G)
+      positive : (n : ℕ) → (n ≡ 0 → ⊥) → 0 < n
+      positive n f = omega (arith, f)
 
 -- The end of the input: nothing is held, or the line that has begun is answered.
 module _ (s : State) (table line : List ℕ) where
   pub ended-none : s .held ≡ 0 → future s table line [] ≡ []
   unfolding future
-  ended-none e = end-none (suc (s .number)) (deskOf (s .kept) table) (take (s .held) line) (rw e refl)
+  ended-none e = end-none deskSays deskNext (turnOf s table) line e
 
-  pub ended-said : Ready s table line → (s .held ≡ 0 → ⊥)
-      → future s table line [] ≡ outputLine (suc (s .number)) (lineAnswer (deskOf (s .kept) table) (take (s .held) line))
+  pub ended-said : Ready s table line → (s .held ≡ 0 → ⊥) → future s table line [] ≡ deskSays (turnOf s table) (take (s .held) line)
   unfolding future
-  ended-said r h =
-      end-answers (suc (s .number)) (deskOf (s .kept) table) (take (s .held) line) (r .free)
-      (λ e. h (sym (length-take-le (s .held) line (omega (arith, r .held, r .size))) ∙ ap length e))
+  ended-said r h = end-answers deskSays deskNext (turnOf s table) (r .holds) h

@@ -1,9 +1,6 @@
--- Laws of text, of frames and the table, of lines, and of the machine.
-pub mod Spelling
-pub mod Decimals
+-- Laws of frames and the table, of lines answered, and of the machine.
 pub mod Framing
 pub mod Tabling
 pub mod Saying
-pub mod Lining
 pub mod Feeding
 pub mod Running

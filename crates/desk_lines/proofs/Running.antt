@@ -1,30 +1,34 @@
 -- The whole input, however it is cut into pieces: what a run of the machine says is the definition's output.
-use Prim.Native.Nat.{ℕ}
+use Prim.Native.Nat.{ℕ, suc}
 use mathlib.Core.Path.{_≡_, refl, sym, ap, _∙_}
-use mathlib.Core.List.{List, _++_, flatten}
+use mathlib.Core.List.{List, [], _∷_, _++_, flatten}
+use lib.ListN.{take}
 use Rattle.rules.specs.Rows.{chop, chopUpTo}
 use Rattle.rules.specs.Origin.{vrps}
-use Rattle.rules.specs.Desk.{newDesk, desk}
-use Rattle.desk_lines.specs.declared.State.{State}
+use Rattle.rules.specs.Text.{lines, saidFrom}
+use Rattle.rules.specs.Desk.{Desk, newDesk, outputLine, lineAnswer, lineNext, deskFrom, desk}
+use Rattle.text.specs.Feeding.{Runs, finished as ended, fed as cut}
+use Rattle.text.proofs.Feeding.{run-says}
+use Rattle.desk_lines.specs.declared.state.State.{State}
 use Rattle.desk_lines.specs.Keeping.{deskOf}
-use Rattle.desk_lines.specs.Machine.{begun, future, emptied, Run, finished, fed}
+use Rattle.desk_lines.specs.Machine.{deskSays, deskNext, turnOf, begun, future, emptied, Run, finished, fed}
 
--- What is written is no part of what is to come.
-future-emptied : (s : State) (wrote : ℕ) (table line rest : List ℕ) → future (emptied s wrote) table line rest ≡ future s table line rest
-unfolding future emptied
-future-emptied s wrote table line rest = refl
+-- The definition's fold over lines is the step's.
+pub desk-said : (n : ℕ) (d : Desk) (ls : List (List ℕ)) → deskFrom n d ls ≡ saidFrom deskSays deskNext (record { number = n; desk = d }) ls
+unfolding deskFrom saidFrom deskSays deskNext
+desk-said n d [] = refl
+desk-said n d (l ∷ ls) = ap (λ (r : List ℕ). outputLine n (lineAnswer d l) ++ r) (desk-said (suc n) (lineNext d l) ls)
 
-run-gives : (s : State) (table line : List ℕ) (pieces : List (List ℕ)) (output : List ℕ) → Run s table line pieces output → output ≡ future s table line (flatten pieces)
-unfolding flatten
-run-gives _ _ _ _ _ (finished s table line) = refl
-run-gives _ _ _ _ _ (fed s table line out piece s′ table′ line′ out′ wrote pieces last f r) =
-    ap (λ (l : List ℕ). f .said ++ l) (run-gives (emptied s′ wrote) table′ line′ pieces last r ∙ future-emptied s′ wrote table′ line′ (flatten pieces))
-    ∙ sym (f .gives (flatten pieces))
-
--- A machine that begins owes the definition's output.
-future-begun : (table line input : List ℕ) → future begun table line input ≡ desk input
-unfolding future begun deskOf vrps chop chopUpTo desk newDesk
-future-begun table line input = refl
+-- A run of the desk is one of its step: what is written is no part of what is to come.
+run-feeds : (s : State) (table line : List ℕ) (pieces : List (List ℕ)) (output : List ℕ) → Run s table line pieces output
+    → Runs deskSays deskNext (turnOf s table) (take (s .held) line) pieces output
+unfolding future emptied turnOf
+run-feeds _ _ _ _ _ (finished s table line) = ended (turnOf s table) (take (s .held) line)
+run-feeds _ _ _ _ _ (fed s table line out piece s′ table′ line′ out′ wrote pieces last f r) =
+    cut (turnOf s table) (take (s .held) line) piece (f .said) (turnOf s′ table′) (take (s′ .held) line′) pieces last (f .feeds)
+    (run-feeds (emptied s′ wrote) table′ line′ pieces last r)
 
 pub run-desk : (table line : List ℕ) (pieces : List (List ℕ)) (output : List ℕ) → Run begun table line pieces output → output ≡ desk (flatten pieces)
-run-desk table line pieces output r = run-gives begun table line pieces output r ∙ future-begun table line (flatten pieces)
+unfolding begun turnOf deskOf vrps chop chopUpTo desk newDesk
+run-desk table line pieces output r =
+    run-says (turnOf begun table) [] pieces output (run-feeds begun table line pieces output r) ∙ sym (desk-said 1 newDesk (lines (flatten pieces)))

@@ -15,12 +15,13 @@ use Rattle.rules.specs.Settings.{vrpsMax}
 use Rattle.rules.specs.Origin.{ipv4, Vrp, vrp, vrpSize, vrps, badVrp}
 use Rattle.rules.specs.Desk.{Desk, sessionFrame, receiptFrame, sendingFrame, vrpIn, vrpFrame, inSession, frameAnswer, frameNext}
 use Rattle.rules.specs.declared.Refusal.the-variants.{BadLength, BadVrp, Unreadable}
-use Rattle.rules.specs.declared.Written.{Written}
-use Rattle.rules.specs.declared.Written.the-variants.{Bytes, Refused}
+use Rattle.desk_lines.specs.declared.reply.Reply.{Reply}
+use Rattle.desk_lines.specs.declared.reply.Reply.the-variants.{Bytes, Refused}
 use Rattle.rules.proofs.Fixed.{whole-count, items-more}
 use Rattle.rules.proofs.Lists.{exists-append}
 use Rattle.octets.specs.Buffer.{splice, Stored}
 use Rattle.octets.proofs.Splices.{splice-length}
+use Rattle.desk_lines.specs.Sizes.{tableMax}
 use Rattle.desk_lines.specs.Keeping.{deskOf, Keeps, replied, Replies, wasDone, keptSession}
 use Rattle.desk_lines.specs.declared.frames.Kept.{Kept}
 use Rattle.desk_lines.proofs.Framing.{replies-refused}
@@ -55,13 +56,13 @@ module _ {used : ℕ} {table : List ℕ} (k : Keeps used table) where
     vrp-long h = replies-refused made (rw (le-ltb (length f) 11 (omega arith), lt-ltb 11 (length f) h) refl)
 
     module _ (h : 11 ≤ length f) (q : length f ≤ 11) where
-      pub vrp-full : 40960 ≤ used → Replies (vrpFrame taken f) made (Refused BadLength)
+      pub vrp-full : tableMax ≤ used → Replies (vrpFrame taken f) made (Refused BadLength)
       unfolding vrpFrame vrpSize answer order first number
       vrp-full u =
           replies-refused made
           (rw (le-ltb (length f) 11 h, le-ltb 11 (length f) q, le-leb vrpsMax (length taken) (omega (arith, records))) refl)
 
-      module _ (u : used < 40960) where
+      module _ (u : used < tableMax) where
         vrp-is : {x : Bool} → x ≡ badVrp ipv4 (vrp ipv4 (take 10 (drop 1 f))) → vrpFrame taken f ≡ cond x (refused (BadVrp 0)) (done [])
         unfolding vrpFrame vrpSize vrpIn answer order first number
         vrp-is {x} e =
@@ -85,7 +86,7 @@ module _ {used : ℕ} {table : List ℕ} (k : Keeps used table) where
   passed false false false true e = absurd (false≢true e)
   passed false false false false e = (refl, refl, refl, refl)
 
-  pub vrp-done : (f : List ℕ) → wasDone (vrpFrame taken f) ≡ true → (length f ≡ 11) × (used + 10 ≤ 40960) × (badVrp ipv4 (vrpIn f) ≡ false)
+  pub vrp-done : (f : List ℕ) → wasDone (vrpFrame taken f) ≡ true → (length f ≡ 11) × (used + 10 ≤ tableMax) × (badVrp ipv4 (vrpIn f) ≡ false)
   unfolding vrpFrame vrpSize
   vrp-done f e =
       let w = passed (ltb (length f) 11) (ltb 11 (length f)) (leb vrpsMax (length taken)) (badVrp ipv4 (vrpIn f)) e in
@@ -93,7 +94,7 @@ module _ {used : ℕ} {table : List ℕ} (k : Keeps used table) where
 
 -- ---- The answer to a frame by its kind
 
-module _ (kept : Kept) (table f made : List ℕ) {r : Written} where
+module _ (kept : Kept) (table f made : List ℕ) {r : Reply} where
   pub frame-session : getD f 0 0 ≡ 1 → Replies (sessionFrame f) made r → Replies (frameAnswer (deskOf kept table) f) made r
   unfolding frameAnswer
   frame-session e p = rw (eq-eqb (getD f 0 0) 1 e) p
@@ -167,7 +168,7 @@ module _ (kept : Kept) (table f : List ℕ) {x : Bool} (d : wasDone (frameAnswer
 
   module _ (k : Keeps (kept .used) table) (e : getD f 0 0 ≡ 4) (z : x ≡ true) where
     -- The frame has 11 bytes, there is room for its record, and the record is not bad.
-    pub kept-room : (length f ≡ 11) × (kept .used + 10 ≤ 40960) × (badVrp ipv4 (vrpIn f) ≡ false)
+    pub kept-room : (length f ≡ 11) × (kept .used + 10 ≤ tableMax) × (badVrp ipv4 (vrpIn f) ≡ false)
     kept-room = vrp-done k f (subst (λ (a : Answer (List ℕ)). wasDone a ≡ true) is-vrp (d ∙ z))
       where
         is-vrp : frameAnswer (deskOf kept table) f ≡ vrpFrame (vrps ipv4 (take (kept .used) table)) f

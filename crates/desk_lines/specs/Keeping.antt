@@ -8,10 +8,11 @@ use lib.ListN.{length, take}
 use Rattle.rules.specs.Answers.{Answer, done, refused}
 use Rattle.rules.specs.Origin.{ipv4, vrps}
 use Rattle.rules.specs.Desk.{Desk, sessionIn, frameAnswer}
-use Rattle.rules.specs.declared.Written.{Written}
-use Rattle.rules.specs.declared.Written.the-variants.{Bytes, Refused}
-use Rattle.origin.specs.Scan.{GoodTable}
+use Rattle.desk_lines.specs.declared.reply.Reply.{Reply}
+use Rattle.desk_lines.specs.declared.reply.Reply.the-variants.{Bytes, Refused}
+use Rattle.vrps.specs.Scan.{GoodTable}
 use Rattle.desk_lines.specs.declared.frames.Kept.{Kept}
+use Rattle.desk_lines.specs.Sizes.{resultMax, tableMax}
 
 -- The session in force, and the VRPs of the table's first `used` bytes.
 unfoldable pub deskOf : Kept → List ℕ → Desk
@@ -19,26 +20,26 @@ deskOf k table = record { session = cond (k .live) (some (k .session)) none; tab
 
 -- Those bytes are whole records, none of them bad, and there is room for 4,096.
 pub record Keeps (used : ℕ) (table : List ℕ) : Type 0 where
-  pub room : length table ≡ 40960
-  pub within : used ≤ 40960
+  pub room : length table ≡ tableMax
+  pub within : used ≤ tableMax
   pub whole : used % 10 ≡ 0
   pub good : GoodTable ipv4 (take used table)
 
 -- A reply as an answer: on 0 the result stands at the start of `made`, within it.
-unfoldable pub replied : List ℕ → Written → Answer (List ℕ)
+unfoldable pub replied : List ℕ → Reply → Answer (List ℕ)
 replied made (Bytes n) = done (take n made)
 replied made (Refused r) = refused r
 
-abbrev pub Within : List ℕ → Written → Type 0
-Within made (Bytes n) = (n ≤ length made) × (n ≤ 4074)
+abbrev pub Within : List ℕ → Reply → Type 0
+Within made (Bytes n) = (n ≤ length made) × (n ≤ resultMax)
 Within made (Refused r) = Unit {0}
 
 -- What answering a frame promises.
-pub record Replies (answer : Answer (List ℕ)) (made : List ℕ) (reply : Written) : Type 0 where
+pub record Replies (answer : Answer (List ℕ)) (made : List ℕ) (reply : Reply) : Type 0 where
   pub is : replied made reply ≡ answer
   pub within : Within made reply
 
-unfoldable pub isDone : Written → Bool
+unfoldable pub isDone : Reply → Bool
 isDone (Bytes n) = true
 isDone (Refused r) = false
 

@@ -1,4 +1,4 @@
--- What the desk keeps, how it replies, and what its byte machine promises.
-pub mod Hex
+-- The desk's sizes, what it keeps, how it replies, and what its byte machine promises.
+pub mod Sizes
 pub mod Keeping
 pub mod Machine

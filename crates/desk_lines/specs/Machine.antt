@@ -4,11 +4,37 @@ use Prim.Native.Nat.{ℕ, suc, _+_, _≤_, _<_}
 use mathlib.Core.Path.{_≡_}
 use mathlib.Core.Bool.{false}
 use mathlib.Core.List.{List, [], _∷_, _++_}
-use lib.ListN.{length, take, getD}
-use Rattle.rules.specs.Desk.{lines, deskFrom, outputLine, lineAnswer, lineNext, lineFeed}
+use lib.ListN.{length, take}
+use Rattle.rules.specs.Answers.{Answer, answerNumber}
+use Rattle.rules.specs.Text.{lines, saidFrom, space, decimal}
+use Rattle.rules.specs.Desk.{Desk, outputLine, shownResult, lineAnswer, lineNext}
 use Rattle.octets.specs.Buffer.{Stored}
-use Rattle.desk_lines.specs.declared.State.{State}
+use Rattle.text.specs.Lines.{Holds}
+use Rattle.text.specs.Feeding.{Feeds}
+use Rattle.desk_lines.specs.declared.state.Progress.{Progress}
+use Rattle.desk_lines.specs.declared.state.State.{State}
+use Rattle.desk_lines.specs.Sizes.{frameMax, resultMax, answerMax}
 use Rattle.desk_lines.specs.Keeping.{deskOf, Keeps}
+
+-- ---- From line to line
+
+-- Where a desk stands between lines: the number of the next, and what it keeps.
+pub record Turn : Type 0 where
+  pub number : ℕ
+  pub desk : Desk
+
+-- What it says of a line, and where it stands after it.
+unfoldable pub deskSays : Turn → List ℕ → List ℕ
+deskSays t l = outputLine (t .number) (lineAnswer (t .desk) l)
+
+unfoldable pub deskNext : Turn → List ℕ → Turn
+deskNext t l = record { number = suc (t .number); desk = lineNext (t .desk) l }
+
+-- An answer in the line that goes out, after the line's number and before its end.
+abbrev pub shownAnswer : Answer (List ℕ) → List ℕ
+shownAnswer a = decimal (answerNumber a) ++ (space ∷ shownResult a)
+
+-- ---- States
 
 unfoldable pub begun : State
 begun =
@@ -19,44 +45,49 @@ begun =
       kept = record { used = 0; live = false; session = record { «local_as» = 0; «remote_as» = 0; «local_role» = 0; mode = 0 } };
     }
 
+unfoldable pub turnOf : State → List ℕ → Turn
+turnOf s table = record { number = suc (s .number); desk = deskOf (s .kept) table }
+
 -- What a desk in this state will give for the rest of its input.
 unfoldable pub future : State → List ℕ → List ℕ → List ℕ → List ℕ
-future s table line rest = deskFrom (suc (s .number)) (deskOf (s .kept) table) (lines (take (s .held) line ++ rest))
+future s table line rest = saidFrom deskSays deskNext (turnOf s table) (lines (take (s .held) line ++ rest))
 
--- No byte is a line feed.
-abbrev pub NoFeed : List ℕ → Type 0
-NoFeed [] = Unit {0}
-NoFeed (b ∷ s) = (b ≡ lineFeed → ⊥) × NoFeed s
-
--- The first line of s ends at r.
-pub record LineEnd (s : List ℕ) (r : ℕ) : Type 0 where
-  pub within : r ≤ length s
-  pub free : NoFeed (take r s)
-  pub ended : r < length s → getD s r 0 ≡ lineFeed
-
--- The machine can go on: of the line that has begun no more is held than fits, with no line feed, and the table is good.
+-- The machine can go on: `line` holds the line that has begun, and the table is good.
 pub record Ready (s : State) (table line : List ℕ) : Type 0 where
-  pub size : length line ≡ 8193
-  pub held : s .held ≤ 8193
-  pub free : NoFeed (take (s .held) line)
+  pub holds : Holds line (s .held)
   pub keeps : Keeps (s .kept .used) table
+
+-- The memory lent for a frame and for a result has its size, and `out` has `room` bytes.
+pub record Lent (raw made out : List ℕ) (room : ℕ) : Type 0 where
+  pub frame : length raw ≡ frameMax
+  pub result : length made ≡ resultMax
+  pub within : room ≤ length out
+
+-- ---- Calls
 
 -- What answering a line promises: the line that goes out, and what is kept.
 pub record Answered (s : State) (table line out : List ℕ) (s′ : State) (table′ out′ : List ℕ) : Type 0 where
-  pub said : Stored out (s .wrote) (outputLine (suc (s .number)) (lineAnswer (deskOf (s .kept) table) line)) (s′ .wrote) out′
-  pub next : deskOf (s′ .kept) table′ ≡ lineNext (deskOf (s .kept) table) line
+  pub said : Stored out (s .wrote) (deskSays (turnOf s table) line) (s′ .wrote) out′
+  pub next : turnOf s′ table′ ≡ deskNext (turnOf s table) line
   pub keeps : Keeps (s′ .kept .used) table′
   pub number : s′ .number ≡ s .number + 1
   pub held : s′ .held ≡ 0
-  pub room : s′ .wrote ≤ s .wrote + 8192
+  pub room : s′ .wrote ≤ s .wrote + answerMax
 
 -- What feeding some bytes promises: what it adds to the output and what the rest of the input will give are what all of it would.
 pub record Fed (s : State) (table line out piece : List ℕ) (s′ : State) (table′ line′ out′ : List ℕ) : Type 0 where
   pub said : List ℕ
   pub stored : Stored out (s .wrote) said (s′ .wrote) out′
-  pub gives : (rest : List ℕ) → future s table line (piece ++ rest) ≡ said ++ future s′ table′ line′ rest
+  pub feeds : Feeds deskSays deskNext (turnOf s table) (take (s .held) line) piece said (turnOf s′ table′) (take (s′ .held) line′)
   pub ready : Ready s′ table′ line′
   pub count : s′ .number ≤ s .number + length piece
+
+-- What it promises of a piece: the bytes that it took were fed, at least one where there is room for an answer.
+pub record Progressed (s : State) (table line out piece : List ℕ) (r : Progress) (table′ line′ out′ : List ℕ) : Type 0 where
+  pub fed : Fed s table line out (take (r .taken) piece) (r .state) table′ line′ out′
+  pub within : r .taken ≤ length piece
+  pub room : r .state .wrote ≤ length out
+  pub some : 0 < length piece → s .wrote + answerMax ≤ length out → 0 < r .taken
 
 -- A run of the machine: pieces of any size are fed in turn, the caller may take away what is written after each, and at the end of
 -- the input what is left is said.

@@ -1,26 +1,51 @@
 // Frames: the bytes of a readable line, answered by their first byte (01, "The desk program"). Each function stores its result at
-// the start of `made`, 4,074 bytes that its caller lends, and answers how many bytes that is, or a refusal.
+// the start of `made`, which its caller lends, and answers how many bytes that is, or a refusal.
+use super::reply::Reply;
+use super::sizes::TABLE_MAX;
+use attributes::value;
 use octets::buffer::put;
 use octets::number4;
 use opening::open_session;
-use origin::validate;
-use origin::vrp::bad_vrp;
-use policy::receive;
+use origin::path_state;
+use policy::placed::Placed;
+use policy::receive_placed;
 use policy::send;
+use rules::Advertised;
+use rules::BLOCK_MAX;
 use rules::Opened;
 use rules::Refusal;
 use rules::Session;
-use rules::Stated;
-use rules::Written;
+use settings::ranges::prefix_length_ok;
 use settings::ranges::session_ok;
+use vrps::vrp::IPV4;
+use vrps::vrp::VRP_SIZE;
+use vrps::vrp::bad_vrp;
 ghost use mathlib.Core.Path.{_≡_};
 ghost use mathlib.Core.Bool.{true};
 ghost use Prim.Native.Nat.{_≤_};
 ghost use lib.ListN.{length, take};
 ghost use Rattle.rules.specs.Origin.{ipv4, vrps};
 ghost use Rattle.rules.specs.Desk.{sessionIn, sessionFrame, receiptFrame, sendingFrame, vrpFrame, frameAnswer, frameNext};
-ghost use Rattle.origin.specs.Scan.{GoodTable};
+ghost use Rattle.vrps.specs.Scan.{GoodTable};
+ghost use Rattle.desk_lines.specs.Sizes.{resultMax};
 ghost use Rattle.desk_lines.specs.Keeping.{deskOf, Keeps, Replies, Agrees, keptSession};
+
+// The kinds of frames, by their first byte, and the least bytes of each; a VRP frame has just so many.
+const SESSION: u8 = 1;
+
+const RECEIPT: u8 = 2;
+
+const SENDING: u8 = 3;
+
+const VRP: u8 = 4;
+
+const SESSION_MIN: usize = 12;
+
+const RECEIPT_MIN: usize = 6;
+
+const SENDING_MIN: usize = 3;
+
+const VRP_FRAME: usize = 1 + VRP_SIZE;
 
 // What the desk keeps from line to line, beside its table: how many bytes of that hold VRPs, whether a session is in force, and
 // the session.
@@ -44,113 +69,120 @@ pub fn session_in(frame: &[u8]) -> Session
 }
 
 // 01, session, with the OPEN's parameters after the settings; its result is the remote role. Internal.
-fn session_frame(frame: &[u8], made: &mut [u8]) -> Written
-    requires { ⌜ length (now made) ≡ 4074 ⌝ }
+fn session_frame(frame: &[u8], made: &mut [u8]) -> Reply
+    requires { ⌜ length (now made) ≡ resultMax ⌝ }
     ensures { λ r. ⌜ Replies (sessionFrame (now (frame .entry))) (now (made .exit)) r ⌝ }
 {
-    if frame.len() < 12 {
-        return Written::Refused(Refusal::Unreadable);
+    if frame.len() < SESSION_MIN {
+        return Reply::Refused(Refusal::Unreadable);
     }
     if !session_ok(session_in(frame)) {
-        return Written::Refused(Refusal::BadSetting);
+        return Reply::Refused(Refusal::BadSetting);
     }
-    let opened = open_session(&frame[12..], frame[9], frame[10]);
+    let opened = open_session(&frame[SESSION_MIN..], frame[9], frame[10]);
     match opened {
         Opened::Refused(refusal) => {
-            return Written::Refused(refusal);
+            return Reply::Refused(refusal);
         }
         Opened::Role(role) => {
             made[0] = role;
-            Written::Bytes(1)
+            Reply::Bytes(1)
         }
     }
 }
 
 // 02, receipt: prefix length, prefix 4, block; its result is the state, found after the verdict, and the block. Internal.
-fn receipt_frame(session: Session, table: &[u8], frame: &[u8], made: &mut [u8]) -> Written
-    requires { ⌜ (GoodTable ipv4 (now table)) × (length (now made) ≡ 4074) ⌝ }
+fn receipt_frame(session: Session, table: &[u8], frame: &[u8], made: &mut [u8]) -> Reply
+    requires { ⌜ (GoodTable ipv4 (now table)) × (length (now made) ≡ resultMax) ⌝ }
     ensures { λ r. ⌜ Replies (receiptFrame session (vrps ipv4 (now (table .entry))) (now (frame .entry))) (now (made .exit)) r ⌝ }
 {
-    if frame.len() < 6 {
-        return Written::Refused(Refusal::Unreadable);
+    if frame.len() < RECEIPT_MIN {
+        return Reply::Refused(Refusal::Unreadable);
     }
     let len = frame[1];
-    if 32 < len {
-        return Written::Refused(Refusal::BadSetting);
+    if !prefix_length_ok(IPV4, len) {
+        return Reply::Refused(Refusal::BadSetting);
     }
-    let block = &frame[6..];
-    let written = receive(session, block, &mut made[1..]);
-    let Written::Bytes(length) = written else {
-        return written;
-    };
-    let prefix = number4(&frame[2..6]);
-    let stated = validate(len, prefix, session.local_as, table, block);
-    match stated {
-        Stated::Refused(refusal) => {
-            return Written::Refused(refusal);
+    let block = &frame[RECEIPT_MIN..];
+    let placed = receive_placed(session, block, &mut made[1..]);
+    match placed {
+        Placed::Refused(refusal) => {
+            return Reply::Refused(refusal);
         }
-        Stated::State(state) => {
-            made[0] = state;
-            Written::Bytes(1 + length)
+        Placed::Block { length, as_path } => {
+            let path = value(block, as_path);
+            let prefix = number4(&frame[2..RECEIPT_MIN]);
+            made[0] = path_state(len, prefix, session.local_as, table, path);
+            Reply::Bytes(1 + length)
         }
     }
 }
 
 // 03, sending: source, state, block; its result is the block. Internal.
-fn sending_frame(session: Session, frame: &[u8], made: &mut [u8]) -> Written
-    requires { ⌜ length (now made) ≡ 4074 ⌝ }
+fn sending_frame(session: Session, frame: &[u8], made: &mut [u8]) -> Reply
+    requires { ⌜ length (now made) ≡ resultMax ⌝ }
     ensures { λ r. ⌜ Replies (sendingFrame session (now (frame .entry))) (now (made .exit)) r ⌝ }
 {
-    if frame.len() < 3 {
-        return Written::Refused(Refusal::Unreadable);
+    if frame.len() < SENDING_MIN {
+        return Reply::Refused(Refusal::Unreadable);
     }
-    send(session, frame[1], frame[2], &frame[3..], &mut made[..4073])
+    let sent = send(
+        session,
+        frame[1],
+        frame[2],
+        &frame[SENDING_MIN..],
+        &mut made[..BLOCK_MAX],
+    );
+    match sent {
+        Advertised::Refused(refusal) => Reply::Refused(refusal),
+        Advertised::Block(length) => Reply::Bytes(length),
+    }
 }
 
 // 04, one VRP, where `used` bytes of the table hold those taken before; it has no result to show. Internal.
-fn vrp_frame(used: usize, table: &[u8], frame: &[u8], made: &[u8]) -> Written
+fn vrp_frame(used: usize, table: &[u8], frame: &[u8], made: &[u8]) -> Reply
     requires { ⌜ Keeps used (now table) ⌝ }
     ensures { λ r. ⌜ Replies (vrpFrame (vrps ipv4 (take used (now (table .entry)))) (now (frame .entry))) (now (made .entry)) r ⌝ }
 {
-    if frame.len() < 11 {
-        return Written::Refused(Refusal::Unreadable);
+    if frame.len() < VRP_FRAME {
+        return Reply::Refused(Refusal::Unreadable);
     }
-    if 11 < frame.len() {
-        return Written::Refused(Refusal::BadLength);
+    if VRP_FRAME < frame.len() {
+        return Reply::Refused(Refusal::BadLength);
     }
-    if 40960 <= used {
-        return Written::Refused(Refusal::BadLength);
+    if TABLE_MAX <= used {
+        return Reply::Refused(Refusal::BadLength);
     }
-    if bad_vrp(&frame[1..11]) {
-        return Written::Refused(Refusal::BadVrp(0));
+    if bad_vrp(&frame[1..VRP_FRAME]) {
+        return Reply::Refused(Refusal::BadVrp(0));
     }
-    Written::Bytes(0)
+    Reply::Bytes(0)
 }
 
 // A frame of any kind. Internal.
-pub fn answer_frame(kept: Kept, table: &[u8], frame: &[u8], made: &mut [u8]) -> Written
-    requires { ⌜ (1 ≤ length (now frame)) × (Keeps (kept .used) (now table)) × (length (now made) ≡ 4074) ⌝ }
+pub fn answer_frame(kept: Kept, table: &[u8], frame: &[u8], made: &mut [u8]) -> Reply
+    requires { ⌜ (1 ≤ length (now frame)) × (Keeps (kept .used) (now table)) × (length (now made) ≡ resultMax) ⌝ }
     ensures { λ r. ⌜ Replies (frameAnswer (deskOf kept (now (table .entry))) (now (frame .entry))) (now (made .exit)) r ⌝ }
 {
     let kind = frame[0];
-    if kind == 1 {
+    if kind == SESSION {
         return session_frame(frame, made);
     }
     let used = kept.used;
-    if kind == 4 {
+    if kind == VRP {
         return vrp_frame(used, table, frame, made);
     }
     if !kept.live {
-        return Written::Refused(Refusal::Unreadable);
+        return Reply::Refused(Refusal::Unreadable);
     }
     let session = kept.session;
-    if kind == 2 {
+    if kind == RECEIPT {
         return receipt_frame(session, &table[..used], frame, made);
     }
-    if kind == 3 {
+    if kind == SENDING {
         return sending_frame(session, frame, made);
     }
-    Written::Refused(Refusal::Unreadable)
+    Reply::Refused(Refusal::Unreadable)
 }
 
 // What is kept after a session frame that was answered 0, or not. Internal.
@@ -181,16 +213,16 @@ pub fn keep_frame(kept: Kept, frame: &[u8], taken: bool, table: &mut [u8]) -> Ke
     ensures { λ r. ⌜ (deskOf r (now (table .exit)) ≡ frameNext (deskOf kept (now (table .entry))) (now (frame .entry)) (frameAnswer (deskOf kept (now (table .entry))) (now (frame .entry)))) × (Keeps (r .used) (now (table .exit))) ⌝ }
 {
     let kind = frame[0];
-    if kind == 1 {
+    if kind == SESSION {
         return keep_session(kept, frame, taken);
     }
-    if kind != 4 {
+    if kind != VRP {
         return kept;
     }
     if !taken {
         return kept;
     }
-    let used = put(&frame[1..11], table, kept.used);
+    let used = put(&frame[1..VRP_FRAME], table, kept.used);
     let session = kept.session;
     Kept {
         used,

@@ -1,30 +1,29 @@
 // One line: read, answered, and the line that goes out (01, "The desk program").
-use super::State;
 use super::frames::answer_frame;
 use super::frames::keep_frame;
-use super::hex::decode;
-use super::hex::put_decimal;
-use super::hex::put_hex;
+use super::reply::Reply;
+use super::state::State;
 use octets::buffer::put;
 use octets::buffer::put_byte;
 use rules::Refusal;
-use rules::Written;
 use settings::answers::refusal_number;
+use text::decimal::put_decimal;
+use text::hex::put_hex;
+use text::hex::read_line;
 ghost use mathlib.Core.Path.{_≡_};
-ghost use mathlib.Core.Bool.{true};
-ghost use mathlib.Core.List.{_∷_, _++_};
-ghost use Prim.Native.Nat.{_+_, _/_, _≤_, _<_, _^_};
-ghost use lib.ListN.{length, take};
-ghost use Rattle.rules.specs.Answers.{done, answerNumber};
-ghost use Rattle.rules.specs.Desk.{space, decimal, shownResult, outputLine, readableLine, fromHex};
+ghost use Prim.Native.Nat.{_+_, _*_, _≤_, _<_, _^_};
+ghost use lib.ListN.{length};
+ghost use Rattle.rules.specs.Answers.{done};
+ghost use Rattle.rules.specs.Desk.{shownResult, outputLine};
 ghost use Rattle.octets.specs.Buffer.{Stored};
+ghost use Rattle.desk_lines.specs.Sizes.{resultMax, answerMax};
 ghost use Rattle.desk_lines.specs.Keeping.{Keeps, replied, Within, isDone};
-ghost use Rattle.desk_lines.specs.Machine.{Answered};
+ghost use Rattle.desk_lines.specs.Machine.{Lent, Answered, shownAnswer};
 
 // Stores a result of answer 0, in hex, or a dash where there is no byte to show. Internal.
 fn put_result(result: &[u8], out: &mut [u8], at: usize) -> usize
-    requires { ⌜ (length (now result) ≤ 4074) × (at + 8148 ≤ length (now out)) ⌝ }
-    ensures { λ r. ⌜ (Stored (now (out .entry)) at (shownResult (done (now (result .entry)))) r (now (out .exit))) × (r ≤ at + 8148) ⌝ }
+    requires { ⌜ (length (now result) ≤ resultMax) × (at + 2 * resultMax ≤ length (now out)) ⌝ }
+    ensures { λ r. ⌜ (Stored (now (out .entry)) at (shownResult (done (now (result .entry)))) r (now (out .exit))) × (r ≤ at + 2 * resultMax) ⌝ }
 {
     if result.len() == 0 {
         return put_byte(45, out, at);
@@ -33,17 +32,17 @@ fn put_result(result: &[u8], out: &mut [u8], at: usize) -> usize
 }
 
 // Stores an answer: its number, and its result or a dash. Internal.
-fn put_reply(reply: Written, made: &[u8], out: &mut [u8], at: usize) -> usize
-    requires { ⌜ (Within (now made) reply) × (at + 8150 ≤ length (now out)) ⌝ }
-    ensures { λ r. ⌜ (Stored (now (out .entry)) at (decimal (answerNumber (replied (now (made .entry)) reply)) ++ (space ∷ shownResult (replied (now (made .entry)) reply))) r (now (out .exit))) × (r ≤ at + 8150) ⌝ }
+fn put_reply(reply: Reply, made: &[u8], out: &mut [u8], at: usize) -> usize
+    requires { ⌜ (Within (now made) reply) × (at + 2 * resultMax + 2 ≤ length (now out)) ⌝ }
+    ensures { λ r. ⌜ (Stored (now (out .entry)) at (shownAnswer (replied (now (made .entry)) reply)) r (now (out .exit))) × (r ≤ at + 2 * resultMax + 2) ⌝ }
 {
     match reply {
-        Written::Refused(refusal) => {
+        Reply::Refused(refusal) => {
             let w = put_decimal(refusal_number(refusal) as u64, out, at);
             let dash = [32u8, 45];
             put(&dash, out, w)
         }
-        Written::Bytes(n) => {
+        Reply::Bytes(n) => {
             let zero = [48u8, 32];
             let w = put(&zero, out, at);
             put_result(&made[..n], out, w)
@@ -52,9 +51,9 @@ fn put_reply(reply: Written, made: &[u8], out: &mut [u8], at: usize) -> usize
 }
 
 // Stores the line that goes out. Internal.
-fn put_line(number: u64, reply: Written, made: &[u8], out: &mut [u8], at: usize) -> usize
-    requires { ⌜ (Within (now made) reply) × (at + 8192 ≤ length (now out)) ⌝ }
-    ensures { λ r. ⌜ (Stored (now (out .entry)) at (outputLine number (replied (now (made .entry)) reply)) r (now (out .exit))) × (r ≤ at + 8192) ⌝ }
+fn put_line(number: u64, reply: Reply, made: &[u8], out: &mut [u8], at: usize) -> usize
+    requires { ⌜ (Within (now made) reply) × (at + answerMax ≤ length (now out)) ⌝ }
+    ensures { λ r. ⌜ (Stored (now (out .entry)) at (outputLine number (replied (now (made .entry)) reply)) r (now (out .exit))) × (r ≤ at + answerMax) ⌝ }
 {
     let v = put_decimal(number, out, at);
     let w = put_byte(32, out, v);
@@ -62,30 +61,13 @@ fn put_line(number: u64, reply: Written, made: &[u8], out: &mut [u8], at: usize)
     put_byte(10, out, x)
 }
 
-// Whether a line is readable, and then the bytes that it spells at the start of `raw`. Internal.
-fn read_line(line: &[u8], raw: &mut [u8]) -> bool
-    requires { ⌜ length (now raw) ≡ 4096 ⌝ }
-    ensures { λ r. ⌜ (r ≡ readableLine (now (line .entry))) × (r ≡ true → (take (length (now (line .entry)) / 2) (now (raw .exit)) ≡ fromHex (now (line .entry))) × (2 ≤ length (now (line .entry))) × (length (now (line .entry)) ≤ 8192)) ⌝ }
-{
-    if line.len() < 1 {
-        return false;
-    }
-    if 8192 < line.len() {
-        return false;
-    }
-    if line.len() % 2 != 0 {
-        return false;
-    }
-    decode(line, raw)
-}
-
 // Whether an answer is 0.
-fn is_done(reply: Written) -> bool
+fn is_done(reply: Reply) -> bool
     ensures { λ r. ⌜ r ≡ isDone reply ⌝ }
 {
     match reply {
-        Written::Refused(refusal) => false,
-        Written::Bytes(n) => true,
+        Reply::Refused(refusal) => false,
+        Reply::Bytes(n) => true,
     }
 }
 
@@ -98,14 +80,14 @@ pub fn answer_line(
     table: &mut [u8],
     out: &mut [u8],
 ) -> State
-    requires { ⌜ (state .number + 1 < 2 ^ 64) × (Keeps (state .kept .used) (now table)) × (length (now raw) ≡ 4096) × (length (now made) ≡ 4074) × (state .wrote + 8192 ≤ length (now out)) ⌝ }
+    requires { ⌜ (state .number + 1 < 2 ^ 64) × (Keeps (state .kept .used) (now table)) × (Lent (now raw) (now made) (now out) (state .wrote + answerMax)) ⌝ }
     ensures { λ r. ⌜ Answered state (now (table .entry)) (now (line .entry)) (now (out .entry)) r (now (table .exit)) (now (out .exit)) ⌝ }
 {
     let number = state.number + 1;
     let at = state.wrote;
     let kept = state.kept;
     if !read_line(line, raw) {
-        let wrote = put_line(number, Written::Refused(Refusal::Unreadable), made, out, at);
+        let wrote = put_line(number, Reply::Refused(Refusal::Unreadable), made, out, at);
         return State {
             number,
             held: 0,

@@ -1,15 +1,4 @@
--- Laws of plans and of what they write.
+-- Laws of what is found of a block and of the verdict by it.
 pub mod Judging
-pub mod Verdicts
-pub mod Left
-pub mod Headers
-pub mod Pieces
-pub mod Fronts
-pub mod Turned
-pub mod Outgoing
-pub mod Found
-pub mod Placed
-pub mod Planned
-pub mod Planning
 pub mod Readings
-pub mod Rooms
+pub mod Leaving

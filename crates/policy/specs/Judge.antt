@@ -1,24 +1,31 @@
--- The rule of receipt and the rule of sending that applies to a route, as a number. Internal: `receiptRules` and `sendingRules`
--- of `rules` are the rules as checks.
-use mathlib.Core.Bool.{Bool, not, cond, _&&_}
-use mathlib.Core.List.{[], _∷_}
-use Prim.Native.Nat.{ℕ}
-use lib.Dec.{eqb}
-use Rattle.rules.specs.Bytes.{oneOf}
-use Rattle.rules.specs.Settings.{remoteAs, modeMeant, dropInvalid, invalid}
-use Rattle.rules.specs.Roles.{provider, rs, rsClient, customer, peer, remoteRole}
-use Rattle.rules.specs.Sending.{ownRoute}
+-- The rule of receipt and the rule of sending that applies to a route, as the number that the code hands on. Internal:
+-- `receiptRules` and `sendingRules` of `rules` are the rules.
+use mathlib.Core.Path.{_≡_}
+use mathlib.Core.Bool.{Bool}
+use mathlib.Core.List.{List}
+use Prim.Native.Nat.{ℕ, zero, suc}
+use Rattle.rules.specs.Answers.{Answer, Check, done, refused, answer, order}
+use Rattle.rules.specs.Attributes.{Attribute, hasOtc, otcAs}
+use Rattle.rules.specs.Receipt.{receiptRules}
+use Rattle.rules.specs.Sending.{sendingRules}
 use Rattle.rules.specs.declared.Session.{Session}
+use Rattle.rules.specs.declared.Refusal.{Refusal}
+use Rattle.rules.specs.declared.Refusal.the-variants.{Ineligible, Withheld}
 
--- The rule of receipt that applies, or 0 (`Receipt.receiptRules`, by what it looks at).
-unfoldable pub receiptRule : Session → Bool → ℕ → ℕ
-receiptRule s has otc =
-    cond (has && oneOf (customer ∷ rsClient ∷ []) (remoteRole s)) 1
-    (cond (has && eqb (remoteRole s) peer && not (eqb otc (remoteAs s))) 2 0)
+-- A rule's number as an answer: 0 is no rule.
+unfoldable pub ruled : (ℕ → Refusal) → ℕ → Answer ℕ
+ruled refusal zero = done 0
+ruled refusal (suc r) = refused (refusal (suc r))
 
--- The rule of sending that applies, or 0 (`Sending.sendingRules`, by what it looks at).
-unfoldable pub sendingRule : Session → ℕ → ℕ → Bool → ℕ
-sendingRule s source state has =
-    cond (has && oneOf (provider ∷ peer ∷ rs ∷ []) (remoteRole s)) 1
-    (cond (not (oneOf (ownRoute ∷ customer ∷ []) source) && oneOf (provider ∷ peer ∷ rs ∷ []) (remoteRole s)) 2
-    (cond (eqb (modeMeant (s .mode)) dropInvalid && eqb state invalid && eqb (remoteRole s) rsClient) 3 0))
+-- What rules answer by themselves.
+abbrev pub judged : List Check → Answer ℕ
+judged rules = answer order rules 0
+
+-- What the rules answer of attributes by what they look at: whether there is an OTC, and the AS that it names.
+abbrev pub ReceiptRule : Session → Bool → ℕ → ℕ → Type 0
+ReceiptRule s has otc r =
+    (l : List Attribute) → hasOtc l ≡ has → otcAs l ≡ otc → judged (receiptRules s l) ≡ ruled (λ k. Ineligible k) r
+
+abbrev pub SendingRule : Session → ℕ → ℕ → Bool → ℕ → Type 0
+SendingRule s source state has r =
+    (l : List Attribute) → hasOtc l ≡ has → judged (sendingRules s source state l) ≡ ruled (λ k. Withheld k) r

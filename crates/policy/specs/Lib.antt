@@ -1,6 +1,3 @@
--- What is planned for a block before any byte of it is stored, and the bytes that the plan stands for.
-pub mod Plan
-pub mod Communities
+-- What the rules of receipt and sending come to as a number, and what the internal form of receipt hands on.
 pub mod Judge
-pub mod Checks
-pub mod Stores
+pub mod Placed

@@ -26,8 +26,9 @@ ghost use Rattle.rules.specs.Settings.{sessionOk, modeMeant, dropInvalid, inval
 ghost use Rattle.rules.specs.Roles.{provider, rs, rsClient, customer, peer};
 ghost use Rattle.rules.specs.Receipt.{otcReceived};
 ghost use Rattle.rules.specs.Sending.{ownRoute, tagSent, otcSent};
-ghost use Rattle.policy.specs.Plan.{toldTag, toldOtc};
-ghost use Rattle.policy.specs.Judge.{receiptRule, sendingRule};
+ghost use Rattle.communities.specs.Tags.{toldTag};
+ghost use Rattle.rewriting.specs.Plan.{toldOtc};
+ghost use Rattle.policy.specs.Judge.{ReceiptRule, SendingRule};
 
 // A role that routes go up or across to: Provider, Peer or RS.
 fn is_up(role: u8) -> bool
@@ -38,7 +39,7 @@ fn is_up(role: u8) -> bool
 
 // The rule by which a received route is ineligible, or 0 (01, Receipt, rules 1 and 2; RFC 9234 section 5, ingress).
 pub fn receipt_rule(session: Session, has: bool, otc: u32) -> u8
-    ensures { λ r. ⌜ (r ≡ receiptRule session has otc) × (r ≤ 2) ⌝ }
+    ensures { λ r. ⌜ ReceiptRule session has otc r ⌝ }
 {
     let role = session.local_role;
     let remote = session.remote_as;
@@ -90,7 +91,7 @@ fn dropped(mode: u8, state: u8, to: u8) -> bool
 
 // The rule by which a route is withheld, or 0 (01, Sending, rules 1 to 3; RFC 9234 section 5, egress).
 pub fn sending_rule(session: Session, source: u8, state: u8, has: bool) -> u8
-    ensures { λ r. ⌜ (r ≡ sendingRule session source state has) × (r ≤ 3) ⌝ }
+    ensures { λ r. ⌜ SendingRule session source state has r ⌝ }
 {
     let to = remote_role(session.local_role);
     let up = is_up(to);

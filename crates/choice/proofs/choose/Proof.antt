@@ -1,146 +1,186 @@
--- `choose` meets its contract. The loop's invariant: none of the candidates before `at` is bad, and the best route so far with those
--- from `at` on gives the best of all.
-use Prim.Native.Nat.{_-_, _/_, _%_, _≤_}
-use mathlib.Core.Path.{_≡_, refl, sym, ap, _∙_}
-use mathlib.Core.List.{map}
+-- `choose` meets its contract. The loop's invariant: the candidates before `index` are met.
+use Prim.Native.Nat.{ℕ, _-_, _≤_, _<_}
+use mathlib.Core.Path.{_≡_, sym, _∙_}
+use mathlib.Core.Bool.{true}
+use mathlib.Core.List.{List}
 use native.Mathlib.Omega.{arith}
 use denote.Ref.{now}
+use borrow.Author.Tests.{not-true, not-false}
 use borrow.Author.Needs.{needs}
-use lib.ListN.{length, drop}
-use Rattle.rules.specs.Choice.{candidate, badOffer, numberedFrom, toldChosen}
-use Rattle.rules.proofs.Lists.{Past, past-start, past-next}
-use Rattle.octets.proofs.Slices.{part-length}
-use Rattle.choice.specs.declared.order.Best.{Best}
-use Rattle.choice.specs.Bests.{none}
-use Rattle.choice.specs.Offers.{offer, offers as offersOf}
-use Rattle.choice.proofs.Examining.{offer-bad, offer-fit, offers-next, offers-end}
-use Rattle.choice.proofs.Taking.{takenAll, taken-left, taken-offer, taken-end, taken-none, taken-some}
-use Rattle.choice.proofs.Choosing.{choose-setting, choose-torn, choose-many, choose-bad, choose-none, choose-some}
+use Rattle.rules.specs.Answers.{Answer, refused}
+use Rattle.rules.specs.Settings.{candidatesMax, modeOk}
+use Rattle.rules.specs.Choice.{Choice, badOffer, chooseIn, toldChosen}
+use Rattle.rules.specs.declared.Refusal.the-variants.{BadCandidate}
+use Rattle.choice.specs.Bests.{leftIn}
+use Rattle.choice.proofs.Candidates.{lent, range-bad, fault-bad, clean-good, clean-reads, offer-outside, offer-inside}
+use Rattle.choice.proofs.Choosing.{Met, met-start, met-next, choose-setting, choose-torn, choose-many, choose-bad, choose-none, choose-some}
 use Rattle.choice.proofs.choose.Statement.{statement}
 use Rattle.choice.proofs.choose.Tie as tie
 
 abbrev Inv-loop : tie.InvT-loop
-Inv-loop mode client buffer offers meant best₀ at₀ best at =
-    (at ≤ length offers)
-    × (at % 17 ≡ 0)
-    × (best .left ≤ at / 17)
-    × Past (badOffer buffer) (offersOf offers) (offersOf (drop at offers)) (at / 17)
-    × (takenAll meant client best (numberedFrom (at / 17) (map (candidate buffer) (offersOf (drop at offers)))) ≡ takenAll meant client none (numberedFrom 0 (map (candidate buffer) (offersOf offers))))
+Inv-loop mode client buffer offers count meant best₀ index₀ best index = (index ≤ count) × Met client buffer offers meant best index
 
 abbrev μ-loop : tie.MeasureT-loop
-μ-loop mode client buffer offers meant best₀ at₀ best at = length offers - at
+μ-loop mode client buffer offers count meant best₀ index₀ best index = count - index
+
+-- The mode is one of the four, once that is tested.
+ok : (c : tie.Else1 Inv-loop μ-loop) → modeOk (c .before .before .before .before .args .mode) ≡ true
+ok c = sym (c .before .mode-ok .ensures) ∙ not-false _ (c .if1 .left)
+
+-- The buffer, and what is to be answered, at a turn of the loop.
+abbrev bufferAt : tie.At-loop Inv-loop μ-loop → List ℕ
+bufferAt l = now (l .before .before .before .before .before .before .before .before .args .buffer)
+
+abbrev decided : tie.At-loop Inv-loop μ-loop → Answer Choice
+decided l =
+    let a = l .before .before .before .before .before .before .before .before .args in
+    chooseIn (a .mode) (a .client) (now (a .buffer)) (now (a .offers))
+
+-- The next candidate refuses all where it is bad.
+refuses : (c : tie.After-read-offer Inv-loop μ-loop) → badOffer (bufferAt (c .before .before .before)) (c .read-offer .result) ≡ true
+    → refused (BadCandidate (c .before .before .before .loop .index)) ≡ decided (c .before .before .before)
+refuses c e =
+    let l = c .before .before .before in
+    let i = l .before .before .before .before in
+    choose-bad _ _ (bufferAt l) _ (ok i) (l .before .before .before .if2 .left) (l .before .before .if3 .left) (l .loop .inv .1) (c .before .before .loop-test .taken) (c .read-offer .ensures) e
+
+mode-ok-requires : tie.Need-mode-ok-requires Inv-loop μ-loop
+mode-ok-requires c κs = search needs
 
 returns : tie.Need-returns Inv-loop μ-loop
 unfolding toldChosen
-returns c =
-    let a = c .before .before .before .args in
-    choose-setting (a .mode) (a .client) (now (a .buffer)) (now (a .offers)) (c .if1 .taken)
+returns c = choose-setting _ _ _ _ (sym (c .before .mode-ok .ensures) ∙ not-true _ (c .if1 .taken))
 
 returns-2 : tie.Need-returns-2 Inv-loop μ-loop
 unfolding toldChosen
-returns-2 c =
-    let a = c .before .before .before .before .args in
-    choose-torn (a .mode) (a .client) (now (a .buffer)) (now (a .offers)) (c .before .if1 .left) (c .if2 .taken)
-
-mul-if3 : tie.Need-mul-if3 Inv-loop μ-loop
-mul-if3 c = search needs
+returns-2 c = choose-torn _ _ _ _ (ok (c .before)) (c .if2 .taken)
 
 returns-3 : tie.Need-returns-3 Inv-loop μ-loop
 unfolding toldChosen
-returns-3 c =
-    let a = c .before .before .before .before .before .args in
-    choose-many (a .mode) (a .client) (now (a .buffer)) (now (a .offers)) (c .before .before .if1 .left) (c .before .if2 .left) (omega (arith, c .if3 .taken))
+returns-3 c = choose-many _ _ _ _ (ok (c .before .before)) (c .before .if2 .left) (c .if3 .taken)
 
 mode-meant-requires : tie.Need-mode-meant-requires Inv-loop μ-loop
 mode-meant-requires c κs = search needs
 
-nothing-requires : tie.Need-nothing-requires Inv-loop μ-loop
-nothing-requires c κs = search needs
-
 loop-holds : tie.Need-loop-holds Inv-loop μ-loop
-unfolding none
-loop-holds c =
-    (omega arith, omega arith, rw (c .nothing .ensures) (omega arith), past-start _, rw (c .nothing .ensures) refl)
+loop-holds c = (omega arith, met-start _ _ _ _)
 
-sub-loop : tie.Need-sub-loop Inv-loop μ-loop
-sub-loop c = search needs
+mul-at : tie.Need-mul-at Inv-loop μ-loop
+mul-at c = search needs
 
-add-examine-offer : tie.Need-add-examine-offer Inv-loop μ-loop
-add-examine-offer c = search needs
+add-read-offer : tie.Need-add-read-offer Inv-loop μ-loop
+add-read-offer c = search needs
 
-sub-examine-offer : tie.Need-sub-examine-offer Inv-loop μ-loop
-sub-examine-offer c = search needs
+sub-read-offer : tie.Need-sub-read-offer Inv-loop μ-loop
+sub-read-offer c = search needs
 
-part-examine-offer-start : tie.Need-part-examine-offer-start Inv-loop μ-loop
-part-examine-offer-start c = search needs
+part-read-offer-start : tie.Need-part-read-offer-start Inv-loop μ-loop
+part-read-offer-start c = search needs
 
-part-examine-offer-end : tie.Need-part-examine-offer-end Inv-loop μ-loop
-part-examine-offer-end c = search needs
+part-read-offer-end : tie.Need-part-read-offer-end Inv-loop μ-loop
+part-read-offer-end c = search needs
 
-examine-offer-requires : tie.Need-examine-offer-requires Inv-loop μ-loop
-examine-offer-requires c κs =
-    let l = c .before .before in
-    part-length (now (l .before .before .before .before .before .before .before .before .args .offers)) (l .loop .at) 17 (omega arith)
+read-offer-requires : tie.Need-read-offer-requires Inv-loop μ-loop
+read-offer-requires c κs = search needs
+
+cast-start : tie.Need-cast-start Inv-loop μ-loop
+cast-start c = search needs
+
+cast-end : tie.Need-cast-end Inv-loop μ-loop
+cast-end c = search needs
+
+add-end : tie.Need-add-end Inv-loop μ-loop
+add-end c = search needs
 
 returns-4 : tie.Need-returns-4 Inv-loop μ-loop
 unfolding toldChosen
 returns-4 c =
-    let l = c .before .before .before .before .before in
-    let s = l .before .before .before .before .before .before .before .before in
-    let a = s .args in
-    let t = now (a .offers) in
-    choose-bad (a .mode) (a .client) (now (a .buffer)) t (l .before .before .before .before .before .if1 .left) (l .before .before .before .before .if2 .left) (omega (arith, l .before .before .before .if3 .left)) (rw (offers-next t (l .loop .at) (omega arith)) at (l .loop .inv .3)) (offer-bad (now (a .buffer)) _ (rw (c .before .before .examine-offer .ensures) at (c .if4 .taken)))
+    let o = c .before .before .before in
+    refuses o (offer-outside _ (o .read-offer .result) (c .if4 .taken))
+
+sub-block : tie.Need-sub-block Inv-loop μ-loop
+sub-block c = search needs
+
+part-block-start : tie.Need-part-block-start Inv-loop μ-loop
+part-block-start c = search needs
+
+part-block-end : tie.Need-part-block-end Inv-loop μ-loop
+part-block-end c = search needs
+
+out-of-range-requires : tie.Need-out-of-range-requires Inv-loop μ-loop
+out-of-range-requires c κs = search needs
+
+returns-5 : tie.Need-returns-5 Inv-loop μ-loop
+unfolding toldChosen
+returns-5 c =
+    let g = c .before in
+    let o = g .before .before .before .before .before in
+    let b = bufferAt (o .before .before .before) in
+    refuses o (offer-inside b (o .read-offer .result) (g .before .before .if4 .left) (range-bad (lent b (o .read-offer .result)) (g .out-of-range .ensures) (c .if5 .taken)))
+
+read-requires : tie.Need-read-requires Inv-loop μ-loop
+read-requires c κs = search needs
+
+enum-known-reading : tie.Need-enum-known-reading Inv-loop μ-loop
+enum-known-reading c = search needs
+
+enum-told : tie.Need-enum-told Inv-loop μ-loop
+enum-told c = search needs
+
+returns-6 : tie.Need-returns-6 Inv-loop μ-loop
+unfolding toldChosen
+returns-6 c =
+    let r = c .before .before in
+    let g = r .before .before in
+    let o = g .before .before .before .before .before in
+    let b = bufferAt (o .before .before .before) in
+    refuses o (offer-inside b (o .read-offer .result) (g .before .before .if4 .left) (fault-bad (lent b (o .read-offer .result)) (g .out-of-range .ensures) (r .before .if5 .left) (r .read .ensures) (c .enum-told .given .1)))
 
 take-requires : tie.Need-take-requires Inv-loop μ-loop
 take-requires c κs =
-    let l = c .before .before .before .before .before in
-    omega (arith, l .loop .inv .2, l .loop .inv .1)
+    let r = c .before .before .before in
+    let t = r .before .before .before .before .before .before .before .before .before in
+    let l = t .before in
+    let h : leftIn (l .loop .best) < candidatesMax = omega (arith, l .loop .inv .1 .few, t .loop-test .taken, l .before .before .if3 .left) in
+    (clean-reads _ (r .read .ensures) (c .before .reading .given .1), h)
 
-add-at : tie.Need-add-at Inv-loop μ-loop
-add-at c = search needs
+add-index : tie.Need-add-index Inv-loop μ-loop
+add-index c = search needs
 
 loop-less : tie.Need-loop-less Inv-loop μ-loop
 loop-less c = search needs
 
 loop-again : tie.Need-loop-again Inv-loop μ-loop
 loop-again c =
-    let l = c .before .before .before .before .before .before in
-    let s = l .before .before .before .before .before .before .before .before in
-    let a = s .args in
-    let t = now (a .offers) in
-    let x = c .before .before .before .examine-offer in
-    let e = offer-fit (now (a .buffer)) _ (rw (x .ensures) at (c .before .if4 .left)) in
-    let next = offers-next t (l .loop .at) (omega arith) in (
-      omega arith,
-      omega arith,
-      rw (c .take .ensures) (omega (arith, taken-left (l .before .before .mode-meant .result) (a .client) (l .loop .best) (l .loop .at / 17) (x .result), l .loop .inv .2)),
-      past-next (rw next at (l .loop .inv .3)) (e .0) (omega arith),
-      taken-offer (l .before .before .mode-meant .result) (a .client) (now (a .buffer)) (l .loop .best) (l .loop .at / 17) (l .loop .inv .4) next (x .ensures ∙ e .1) (c .take .ensures) (omega arith),
-    )
+    let r = c .before .before .before .before in
+    let g = r .before .before in
+    let o = g .before .before .before .before .before in
+    let l = o .before .before .before in
+    let b = bufferAt l in
+    let e = offer-inside b (o .read-offer .result) (g .before .before .if4 .left) (clean-good (lent b (o .read-offer .result)) (g .out-of-range .ensures) (r .before .if5 .left) (r .read .ensures) (c .before .before .reading .given .1)) in
+    (search needs, met-next (l .loop .inv .1) (o .before .before .loop-test .taken) (o .read-offer .ensures) e (c .take .ensures))
 
-returns-5 : tie.Need-returns-5 Inv-loop μ-loop
-unfolding toldChosen
-returns-5 c =
-    let l = c .before .before .before in
-    let s = l .before .before .before .before .before .before .before .before in
-    let a = s .args in
-    let t = now (a .offers) in
-    let gone = offers-end t (l .loop .at) (omega arith) in
-    let best = taken-end (l .before .before .mode-meant .result) (a .client) (now (a .buffer)) (l .loop .best) (l .loop .at / 17) (l .loop .inv .4) gone in
-    choose-none (a .mode) (a .client) (now (a .buffer)) t (l .before .before .before .before .before .if1 .left) (l .before .before .before .before .if2 .left) (omega (arith, l .before .before .before .if3 .left)) (rw gone at (l .loop .inv .3))
-    (rw (l .before .before .mode-meant .ensures) at (taken-none (l .before .before .mode-meant .result) (a .client) (map (candidate (now (a .buffer))) (offersOf t)) (ap (λ (b : Best). b .left) (sym best) ∙ c .if5 .taken)))
+enum-known-best : tie.Need-enum-known-best Inv-loop μ-loop
+enum-known-best c = search needs
 
-returns-6 : tie.Need-returns-6 Inv-loop μ-loop
+enum-told-2 : tie.Need-enum-told-2 Inv-loop μ-loop
+enum-told-2 c = search needs
+
+returns-7 : tie.Need-returns-7 Inv-loop μ-loop
 unfolding toldChosen
-returns-6 c =
-    let l = c .before .before .before in
-    let s = l .before .before .before .before .before .before .before .before in
-    let a = s .args in
-    let t = now (a .offers) in
-    let gone = offers-end t (l .loop .at) (omega arith) in
-    let best = taken-end (l .before .before .mode-meant .result) (a .client) (now (a .buffer)) (l .loop .best) (l .loop .at / 17) (l .loop .inv .4) gone in
-    let some = rw (l .before .before .mode-meant .ensures) at (taken-some (l .before .before .mode-meant .result) (a .client) (map (candidate (now (a .buffer))) (offersOf t)) best (c .if5 .left)) in
-    choose-some (a .mode) (a .client) (now (a .buffer)) t (l .before .before .before .before .before .if1 .left) (l .before .before .before .before .if2 .left) (omega (arith, l .before .before .before .if3 .left)) (rw gone at (l .loop .inv .3)) (some .0) (some .1)
+returns-7 c =
+    let e = c .before .before in
+    let l = e .before in
+    let m = l .before in
+    choose-none _ _ _ _ (ok (m .before .before .before)) (m .before .before .if2 .left) (m .before .if3 .left) (l .loop .inv .1) (e .loop-test .left) (m .mode-meant .ensures) (c .enum-told2 .given .1)
+
+returns-8 : tie.Need-returns-8 Inv-loop μ-loop
+unfolding toldChosen
+returns-8 c =
+    let e = c .before .before .before in
+    let l = e .before in
+    let m = l .before in
+    choose-some _ _ _ _ (ok (m .before .before .before)) (m .before .before .if2 .left) (m .before .if3 .left) (l .loop .inv .1) (e .loop-test .left) (m .mode-meant .ensures) (c .before .best .given .1)
 
 pub choose-spec : {M : Type 1} → statement M
 choose-spec =
@@ -148,23 +188,36 @@ choose-spec =
     (tie.spec
     Inv-loop
     μ-loop
+    mode-ok-requires
     returns
     returns-2
-    mul-if3
     returns-3
     mode-meant-requires
-    nothing-requires
     loop-holds
-    sub-loop
-    add-examine-offer
-    sub-examine-offer
-    part-examine-offer-start
-    part-examine-offer-end
-    examine-offer-requires
+    mul-at
+    add-read-offer
+    sub-read-offer
+    part-read-offer-start
+    part-read-offer-end
+    read-offer-requires
+    cast-start
+    cast-end
+    add-end
     returns-4
+    sub-block
+    part-block-start
+    part-block-end
+    out-of-range-requires
+    returns-5
+    read-requires
+    enum-known-reading
+    enum-told
+    returns-6
     take-requires
-    add-at
+    add-index
     loop-less
     loop-again
-    returns-5
-    returns-6)
+    enum-known-best
+    enum-told-2
+    returns-7
+    returns-8)

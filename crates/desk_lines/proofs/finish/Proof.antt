@@ -19,39 +19,18 @@ slice-aggregate-answer-line : tie.Need-slice-aggregate-answer-line
 slice-aggregate-answer-line c =
     let b = c .before .before .before .before .before .before .before in
     let a = b .args in
-    sym (length-take-le (a .state .held) (now (a .line)) (omega (arith, b .pre .0 .held, b .pre .0 .size)))
-
-answer-line-requires : tie.Need-answer-line-requires
-answer-line-requires c κs = search needs
-
-same-length : tie.Need-same-length
-same-length c = search needs
-
-same-length-2 : tie.Need-same-length-2
-same-length-2 c = search needs
-
-same-length-3 : tie.Need-same-length-3
-same-length-3 c = search needs
-
-same-length-4 : tie.Need-same-length-4
-same-length-4 c = search needs
+    sym (length-take-le (a .state .held) (now (a .line)) (omega (arith, b .pre .0 .holds .within, b .pre .0 .holds .size)))
 
 returns-2 : tie.Need-returns-2
 returns-2 c =
-    let b = c .before .before .before .before .before .before .before .before .before .before .before .before .before .before .before .before .before .before .before .before in
+    let w = c .before .before .before .before .before .before .before .before in
+    let e = w .before .before .before .before .before .before in
+    let b = e .before .before .before .before .before .before in
     let a = b .args in
-    let w = c .before .before .before .before .before .before .before .before .answer-line .ensures in
-    (rw (ended-said (a .state) (now (a .table)) (now (a .line)) (b .pre .0) (c .before .before .before .before .before .before .before .before .before .before .before .before .before .before .if1 .left)) (w .said), w .room)
+    (rw (ended-said (a .state) (now (a .table)) (now (a .line)) (b .pre .0) (e .if1 .left)) (w .answer-line .ensures .said), w .answer-line .ensures .room)
 
 pub finish-spec : {M : Type 1} → statement M
 finish-spec =
     tie.close
-    (tie.spec
-    returns
-    slice-aggregate-answer-line
-    answer-line-requires
-    same-length
-    same-length-2
-    same-length-3
-    same-length-4
-    returns-2)
+    (tie.spec returns slice-aggregate-answer-line (λ c κs. search needs) (λ c. search needs) (λ c. search needs)
+    (λ c. search needs) (λ c. search needs) returns-2)

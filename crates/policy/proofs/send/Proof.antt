@@ -1,116 +1,155 @@
-use mathlib.Core.Path.{sym, _∙_}
-use mathlib.Core.Bool.{_&&_}
-use borrow.Author.Tests.{not-true, not-false}
+-- `send` meets its contract: each way out by its law, in the order of answers.
+use mathlib.Core.Path.{_≡_, sym, _∙_}
+use mathlib.Core.Bool.{Bool, true, _&&_}
+use mathlib.Core.List.{List}
+use Prim.Native.Nat.{ℕ}
 use denote.Ref.{now}
-use Rattle.rules.specs.Answers.{toldWritten}
-use Rattle.rules.specs.Settings.{sessionOk, sourceOk, stateOk}
-use Rattle.rules.specs.Attributes.{attributes}
-use Rattle.rules.specs.Sending.{sendingResult}
+use lib.Dec.{leb}
+use lib.ListN.{length}
+use borrow.Author.Tests.{not-true, not-false}
+use Rattle.rules.specs.Answers.{Check, toldAdvertised}
+use Rattle.rules.specs.Settings.{blockMax, sessionOk, sourceOk, stateOk}
+use Rattle.rules.specs.Attributes.{Attribute, attributes}
+use Rattle.rules.specs.Changes.{Leaves}
+use Rattle.rules.specs.Sending.{sendingRules, sendingResult, sendingVerdict}
 use Rattle.rules.specs.declared.Refusal.the-variants.{Withheld}
 use Rattle.rules.proofs.Lists.{and-left}
-use Rattle.policy.proofs.Readings.{bad-setting, bad-length, read-fault, read-clean, sending-found}
-use Rattle.policy.proofs.Verdicts.{rule-some, rule-none, sending-decided}
-use Rattle.policy.proofs.Rooms.{leaves-refused, leaves-stored}
+use Rattle.rules.proofs.Checked.{Late}
+use Rattle.communities.specs.Tags.{dropTest}
+use Rattle.rewriting.specs.Plan.{ReadBlock}
+use Rattle.rewriting.specs.Stores.{toldOutput}
+use Rattle.policy.specs.Judge.{ruled, judged}
+use Rattle.policy.proofs.Judging.{sending-late}
+use Rattle.policy.proofs.Readings.{read-clean, has-found}
+use Rattle.policy.proofs.Leaving.{leaves-setting, leaves-length, leaves-fault, leaves-rule, leaves-output}
 use borrow.Author.Needs.{needs}
 use Rattle.policy.proofs.send.Statement.{statement}
 use Rattle.policy.proofs.send.Tie as tie
-use Rattle.policy.proofs.send.Reads as reads
-use Rattle.policy.proofs.send.Lts as lts
-use Rattle.attributes.proofs.read.Reads as read-reads
-use Rattle.settings.proofs.ranges.sending_ok.Reads as sending-ok-reads
-use Rattle.policy.proofs.judge.sending_rule.Reads as sending-rule-reads
-use Rattle.policy.proofs.judge.sent_otc.Reads as sent-otc-reads
-use Rattle.policy.proofs.judge.sent_tag.Reads as sent-tag-reads
-use Rattle.settings.proofs.ranges.block_size_ok.Reads as block-size-ok-reads
-use Rattle.policy.proofs.store.Reads as store-reads
 
--- src/lib.rt:103:9
+module _ (s : tie.Start) where
+  abbrev ok : Bool
+  ok = sessionOk (s .args .session) && sourceOk (s .args .source) && stateOk (s .args .state)
+
+  abbrev block : List ℕ
+  block = now (s .args .block)
+
+  abbrev rules : List Check
+  rules = sendingRules (s .args .session) (s .args .source) (s .args .state) (attributes (now (s .args .block)))
+
+  abbrev result : List Attribute
+  result = sendingResult (s .args .session) (s .args .source) (s .args .state) (attributes (now (s .args .block)))
+
+  late : Late (sendingRules (s .args .session) (s .args .source) (s .args .state) (attributes (now (s .args .block))))
+  late = sending-late (s .args .session) (s .args .source) (s .args .state) (attributes (now (s .args .block)))
+
+-- What is known of the settings, of the size and of the block where the code has gone on.
+valid : (c : tie.Else1) → ok (c .before .before .before .before) ≡ true
+valid c = sym (c .before .sending-ok .ensures) ∙ not-false _ (c .if1 .left)
+
+small : (c : tie.Else2) → leb (length (now (c .before .before .before .before .before .before .args .block))) blockMax ≡ true
+small c = sym (c .before .block-size-ok .ensures) ∙ not-false _ (c .if2 .left)
+
+abbrev start : tie.After-reading2 → tie.Start
+start c = c .before .before .before .before .before .before .before .before .before
+
+-- The block is clean, and this is its layout.
+clean : (c : tie.After-reading2) → ReadBlock (now (start c .args .block)) (c .reading2 .given .0 .0)
+clean c = read-clean _ (small (c .before .before .before)) (c .before .before .read .ensures) (c .reading2 .given .1)
+
+-- The rule that the code finds is what the rules answer.
+found : (c : tie.After-sending-rule) → judged (rules (start (c .before .before))) ≡ ruled (λ k. Withheld k) (c .sending-rule .result)
+found c = let r = c .before .before in c .sending-rule .ensures (attributes (block (start r))) (has-found (clean r))
+
+-- What the block stored, or that there was no room for it, says of sending.
+output : (c : tie.After-store) → let s = start (c .before .before .before .before .before .before .before) in
+    Leaves (sendingVerdict (s .args .session) (s .args .source) (s .args .state) (block s)) (now (s .args .out)) (toldOutput (c .store .result)) (c .store .last .1 .1 .1 .1 .1 .1 .0)
+unfolding sendingVerdict sendingResult dropTest
+output c =
+    let o = c .before .before in
+    let q = o .before .before .before in
+    let r = q .before .before in
+    let s = start r in
+    leaves-output (ok s) (block s) (rules s) (late s) (result s) (now (s .args .out)) (valid (r .before .before .before .before .before)) (clean r) (λ k. Withheld k) (q .sending-rule .result) (found q) (o .before .before .if3 .left)
+    (rw (o .before .sent-tag .ensures, o .sent-otc .ensures) at (c .store .ensures))
+
 sending-ok-requires : tie.Need-sending-ok-requires
 sending-ok-requires c κs = search needs
 
--- src/lib.rt:104:9
 returns : tie.Need-returns
-unfolding toldWritten
+unfolding toldAdvertised sendingVerdict
 returns c =
     let s = c .before .before .before .before in
-    let b = now (s .args .block) in
-    leaves-refused (now (s .args .out)) (sending-decided (s .args .session) (s .args .source) (s .args .state) b ∙ bad-setting b (sym (c .before .sending-ok .ensures) ∙ not-true _ (c .if1 .taken)) _)
+    leaves-setting (ok s) (block s) (rules s) (late s) (result s) (now (s .args .out)) (sym (c .before .sending-ok .ensures) ∙ not-true _ (c .if1 .taken))
 
--- src/lib.rt:106:9
 block-size-ok-requires : tie.Need-block-size-ok-requires
 block-size-ok-requires c κs = search needs
 
--- src/lib.rt:107:9
 returns-2 : tie.Need-returns-2
-unfolding toldWritten
+unfolding toldAdvertised sendingVerdict
 returns-2 c =
-    let s = c .before .before .before .before .before .before in
-    let b = now (s .args .block) in
-    leaves-refused (now (s .args .out)) (sending-decided (s .args .session) (s .args .source) (s .args .state) b ∙ bad-length b (sym (c .before .before .before .sending-ok .ensures) ∙ not-false _ (c .before .before .if1 .left)) (sym (c .before .block-size-ok .ensures) ∙ not-true _ (c .if2 .taken)) _)
+    let e = c .before .before in
+    let s = e .before .before .before .before in
+    leaves-length (ok s) (block s) (rules s) (late s) (result s) (now (s .args .out)) (valid e) (sym (c .before .block-size-ok .ensures) ∙ not-true _ (c .if2 .taken))
 
--- src/lib.rt:109:9
 read-requires : tie.Need-read-requires
 read-requires c κs = search needs
 
--- src/lib.rt:111:24
 enum-known-reading : tie.Need-enum-known-reading
 enum-known-reading c = search needs
 
--- src/lib.rt:112:13
 returns-3 : tie.Need-returns-3
-unfolding toldWritten
+unfolding toldAdvertised sendingVerdict
 returns-3 c =
-    let s = c .before .before .before .before .before .before .before .before .before .before in
-    let b = now (s .args .block) in
-    leaves-refused (now (s .args .out)) (sending-decided (s .args .session) (s .args .source) (s .args .state) b ∙ read-fault b (sym (c .before .before .before .before .before .before .before .sending-ok .ensures) ∙ not-false _ (c .before .before .before .before .before .before .if1 .left)) (sym (c .before .before .before .before .before .block-size-ok .ensures) ∙ not-false _ (c .before .before .before .before .if2 .left)) (c .before .before .before .read .ensures) (c .before .reading .given .1) _)
+    let g = c .before .before .before .before in
+    let e = g .before .before in
+    let s = e .before .before .before .before in
+    leaves-fault (ok s) (block s) (rules s) (late s) (result s) (now (s .args .out)) (valid e) (small g) (c .before .before .before .read .ensures) (c .before .reading .given .1)
 
--- src/lib.rt:114:24
 enum-known-reading-2 : tie.Need-enum-known-reading-2
 enum-known-reading-2 c = search needs
 
--- src/lib.rt:116:17
 sending-rule-requires : tie.Need-sending-rule-requires
 sending-rule-requires c κs = search needs
 
--- src/lib.rt:118:17
 returns-4 : tie.Need-returns-4
-unfolding toldWritten
+unfolding toldAdvertised sendingVerdict
 returns-4 c =
-    let s = c .before .before .before .before .before .before .before .before .before .before .before .before in
-    let b = now (s .args .block) in
-    let w = read-clean b (sym (c .before .before .before .before .before .before .before .before .before .sending-ok .ensures) ∙ not-false _ (c .before .before .before .before .before .before .before .before .if1 .left)) (sym (c .before .before .before .before .before .before .before .block-size-ok .ensures) ∙ not-false _ (c .before .before .before .before .before .before .if2 .left)) (c .before .before .before .before .before .read .ensures) (c .before .before .before .reading2 .given .1) in
-    leaves-refused (now (s .args .out)) (sending-decided (s .args .session) (s .args .source) (s .args .state) b ∙ w .decides _ ∙ rule-some (λ r. Withheld r) (sendingResult (s .args .session) (s .args .source) (s .args .state) (attributes b)) (sending-found (s .args .session) w (s .args .source) (s .args .state) (c .before .sending-rule .ensures .0)) (c .if3 .taken))
+    let q = c .before in
+    let r = q .before .before in
+    let s = start r in
+    leaves-rule (ok s) (block s) (rules s) (late s) (result s) (now (s .args .out)) (valid (r .before .before .before .before .before)) (clean r) (λ k. Withheld k) (q .sending-rule .result) (found q) (c .if3 .taken)
 
--- src/lib.rt:120:17
 sent-tag-requires : tie.Need-sent-tag-requires
 sent-tag-requires c κs = search needs
 
--- src/lib.rt:121:17
 sent-otc-requires : tie.Need-sent-otc-requires
 sent-otc-requires c κs =
-    let a = c .before .before .before .before .before .before .before .before .before .before .before .before .before .args in
-    and-left (sessionOk (a .session)) (sourceOk (a .source)) (and-left (sessionOk (a .session) && sourceOk (a .source)) (stateOk (a .state)) (sym (c .before .before .before .before .before .before .before .before .before .before .sending-ok .ensures) ∙ not-false _ (c .before .before .before .before .before .before .before .before .before .if1 .left)))
+    let e = c .before .before .before .before .before .before .before .before .before in
+    let a = e .before .before .before .before .args in
+    and-left (sessionOk (a .session)) (sourceOk (a .source)) (and-left (sessionOk (a .session) && sourceOk (a .source)) (stateOk (a .state)) (valid e))
 
--- src/lib.rt:122:13
 store-requires : tie.Need-store-requires
-store-requires c κs =
-    let s = c .before .before .before .before .before .before .before .before .before .before .before .before .before .before .before in
-    let b = now (s .args .block) in
-    let w = read-clean b (sym (c .before .before .before .before .before .before .before .before .before .before .before .before .sending-ok .ensures) ∙ not-false _ (c .before .before .before .before .before .before .before .before .before .before .before .if1 .left)) (sym (c .before .before .before .before .before .before .before .before .before .before .block-size-ok .ensures) ∙ not-false _ (c .before .before .before .before .before .before .before .before .before .if2 .left)) (c .before .before .before .before .before .before .before .before .read .ensures) (c .before .before .before .before .before .before .reading2 .given .1) in
-    (w .good, w .is, w .small)
+store-requires c κs = clean (c .before .before .before .before .before .before)
 
--- src/lib.rt:100:1
+enum-told : tie.Need-enum-told
+enum-told c = search needs
+
+enum-known-output : tie.Need-enum-known-output
+enum-known-output c = search needs
+
 same-length : tie.Need-same-length
 same-length c = search needs
 
--- src/lib.rt:100:1
 returns-5 : tie.Need-returns-5
-unfolding toldWritten sendingResult
-returns-5 c =
-    let s = c .before .before .before .before .before .before .before .before .before .before .before .before .before .before .before .before .before .before in
-    let b = now (s .args .block) in
-    let w = read-clean b (sym (c .before .before .before .before .before .before .before .before .before .before .before .before .before .before .before .sending-ok .ensures) ∙ not-false _ (c .before .before .before .before .before .before .before .before .before .before .before .before .before .before .if1 .left)) (sym (c .before .before .before .before .before .before .before .before .before .before .before .before .before .block-size-ok .ensures) ∙ not-false _ (c .before .before .before .before .before .before .before .before .before .before .before .before .if2 .left)) (c .before .before .before .before .before .before .before .before .before .before .before .read .ensures) (c .before .before .before .before .before .before .before .before .before .reading2 .given .1) in
-    leaves-stored (sending-decided (s .args .session) (s .args .source) (s .args .state) b ∙ w .decides _ ∙ rule-none (λ r. Withheld r) (sendingResult (s .args .session) (s .args .source) (s .args .state) (attributes b)) ((sending-found (s .args .session) w (s .args .source) (s .args .state) (c .before .before .before .before .before .before .before .sending-rule .ensures .0)) ∙ c .before .before .before .before .before .before .if3 .left)) (rw (← c .before .before .before .before .before .sent-tag .ensures, ← c .before .before .before .before .sent-otc .ensures) (c .before .before .store .ensures))
+unfolding toldAdvertised toldOutput
+returns-5 c = rw (c .enum-told .given .1) at (output (c .before .before .before .before))
+
+same-length-2 : tie.Need-same-length-2
+same-length-2 c = search needs
+
+returns-6 : tie.Need-returns-6
+unfolding toldAdvertised toldOutput
+returns-6 c = rw (c .before .output .given .1) at (output (c .before .before .before .before .before))
 
 pub send-spec : {M : Type 1} → statement M
 send-spec =
@@ -129,5 +168,9 @@ send-spec =
     sent-tag-requires
     sent-otc-requires
     store-requires
+    enum-told
+    enum-known-output
     same-length
-    returns-5)
+    returns-5
+    same-length-2
+    returns-6)

@@ -1,12 +1,30 @@
--- `receipt_frame` meets its contract: the verdict first, then the state, which a block that was taken always has.
+-- `receipt_frame` meets its contract: the verdict first, then the state by the AS_PATH that receipt tells of.
+use mathlib.Core.Path.{_≡_, sym, ap, _∙_}
+use mathlib.Core.Bool.{true}
+use Prim.Native.Nat.{_≤_}
 use native.Mathlib.Omega.{arith}
 use denote.Ref.{now}
+use lib.ListN.{length, getD}
+use borrow.Author.Tests.{not-true, not-false}
 use Rattle.rules.specs.Bytes.{part}
+use Rattle.rules.specs.Settings.{prefixLengthOk}
+use Rattle.rules.specs.Origin.{ipv4}
 use Rattle.octets.proofs.Slices.{tail-is}
-use Rattle.desk_lines.proofs.Framing.{tail-long, receipt-short, receipt-setting, receipt-refused, receipt-fits, receipt-stated, receipt-done}
+use Rattle.policy.specs.Placed.{toldPlaced}
+use Rattle.desk_lines.proofs.Framing.{tail-long, receipt-short, receipt-setting, receipt-refused, receipt-fits, receipt-done}
 use borrow.Author.Needs.{needs}
 use Rattle.desk_lines.proofs.frames.receipt_frame.Statement.{statement}
 use Rattle.desk_lines.proofs.frames.receipt_frame.Tie as tie
+
+abbrev start : tie.After-receive-placed → tie.Start
+start c = c .before .before .before .before .before .before .before .before .before .before
+
+-- The length of the frame and that of the prefix are as they must be.
+long : (c : tie.After-receive-placed) → 6 ≤ length (now (start c .args .frame))
+long c = c .before .before .before .before .before .before .if1 .left
+
+fits : (c : tie.After-receive-placed) → prefixLengthOk ipv4 (getD (now (start c .args .frame)) 1 0) ≡ true
+fits c = sym (c .before .before .before .before .prefix-length-ok .ensures) ∙ not-false _ (c .before .before .before .if2 .left)
 
 returns : tie.Need-returns
 returns c =
@@ -16,10 +34,14 @@ returns c =
 shared-slice-read-len : tie.Need-shared-slice-read-len
 shared-slice-read-len c = search needs
 
+prefix-length-ok-requires : tie.Need-prefix-length-ok-requires
+prefix-length-ok-requires c κs = search needs
+
 returns-2 : tie.Need-returns-2
 returns-2 c =
-    let a = c .before .before .before .before .before .before .args in
-    receipt-setting (a .session) (now (a .table)) (now (a .frame)) (c .before .before .if1 .left) (now (a .made)) (c .if2 .taken)
+    let e = c .before .before .before in
+    let a = e .before .before .before .before .args in
+    receipt-setting (a .session) (now (a .table)) (now (a .frame)) (e .if1 .left) (now (a .made)) (sym (c .before .prefix-length-ok .ensures) ∙ not-true _ (c .if2 .taken))
 
 sub-block : tie.Need-sub-block
 sub-block c = search needs
@@ -30,33 +52,36 @@ part-block-start c = search needs
 part-block-end : tie.Need-part-block-end
 part-block-end c = search needs
 
-sub-receive : tie.Need-sub-receive
-sub-receive c = search needs
+sub-receive-placed : tie.Need-sub-receive-placed
+sub-receive-placed c = search needs
 
-part-receive-start : tie.Need-part-receive-start
-part-receive-start c = search needs
+part-receive-placed-start : tie.Need-part-receive-placed-start
+part-receive-placed-start c = search needs
 
-part-receive-end : tie.Need-part-receive-end
-part-receive-end c = search needs
+part-receive-placed-end : tie.Need-part-receive-placed-end
+part-receive-placed-end c = search needs
 
-receive-requires : tie.Need-receive-requires
-receive-requires c κs = search needs
+receive-placed-requires : tie.Need-receive-placed-requires
+receive-placed-requires c κs = search needs
 
-enum-known-written : tie.Need-enum-known-written
-enum-known-written c = search needs
-
-enum-told : tie.Need-enum-told
-enum-told c = search needs
+enum-known-placed : tie.Need-enum-known-placed
+enum-known-placed c = search needs
 
 same-length : tie.Need-same-length
 same-length c = search needs
 
 returns-3 : tie.Need-returns-3
+unfolding toldPlaced
 returns-3 c =
-    let o = c .before .before .before .before .before .before .before .before .before .before .before .before .before in
-    let a = o .args in
-    receipt-refused (a .session) (now (a .table)) (now (a .frame)) (c .before .before .before .before .before .before .before .before .before .if1 .left) (c .before .before .before .before .before .before .before .if2 .left) (tail-is (now (a .frame)) 6)
-    (tail-long (now (a .made)) (o .pre .1)) (c .before .before .before .before .receive .ensures) _ (c .enum-told .given .1)
+    let m = c .before .before .before .before .before in
+    let a = start m .args in
+    receipt-refused (a .session) (now (a .table)) (now (a .frame)) (long m) (fits m) (tail-is (now (a .frame)) 6) (tail-long (now (a .made)) (start m .pre .1)) (m .receive-placed .ensures .got) _ (ap toldPlaced (c .before .placed .given .1))
+
+enum-known-placed-2 : tie.Need-enum-known-placed-2
+enum-known-placed-2 c = search needs
+
+value-requires : tie.Need-value-requires
+value-requires c κs = search needs
 
 sub-number4 : tie.Need-sub-number4
 sub-number4 c = search needs
@@ -70,49 +95,33 @@ part-number4-end c = search needs
 number4-requires : tie.Need-number4-requires
 number4-requires c κs = search needs
 
-validate-requires : tie.Need-validate-requires
-validate-requires c κs = search needs
+path-state-requires : tie.Need-path-state-requires
+path-state-requires c κs = search needs
 
-enum-known-stated : tie.Need-enum-known-stated
-enum-known-stated c = search needs
+slice-write-made : tie.Need-slice-write-made
+slice-write-made c = search needs
+
+add-t27 : tie.Need-add-t27
+unfolding toldPlaced
+add-t27 c =
+    let p = c .before .before .before .before .before in
+    let m = p .before .before .before .before in
+    let a = start m .args in
+    let n = receipt-fits (a .session) (now (a .table)) (now (a .frame)) (long m) (fits m) (tail-is (now (a .frame)) 6) (tail-long (now (a .made)) (start m .pre .1)) (m .receive-placed .ensures .got) (ap toldPlaced (p .placed2 .given .1)) in
+    omega arith
 
 same-length-2 : tie.Need-same-length-2
 same-length-2 c = search needs
 
 returns-4 : tie.Need-returns-4
-unfolding part
+unfolding part toldPlaced
 returns-4 c =
-    let o = c .before .before .before .before .before .before .before .before .before .before .before .before .before .before .before .before .before .before .before .before in
-    let a = o .args in
-    absurd (receipt-stated (a .session) (now (a .table)) (now (a .frame)) (c .before .before .before .before .before .before .before .before .before .before .before .before .before .before .before .before .if1 .left) (c .before .before .before .before .before .before .before .before .before .before .before .before .before .before .if2 .left) (tail-is (now (a .frame)) 6)
-    (tail-long (now (a .made)) (o .pre .1)) (c .before .before .before .before .before .before .before .before .before .before .before .receive .ensures) (c .before .before .before .before .before .before .before .written .given .1)
-    (c .before .before .before .before .number4 .ensures) (c .before .before .before .validate .result) (c .before .before .before .validate .ensures) (c .before .stated .given .1))
-
-enum-known-stated-2 : tie.Need-enum-known-stated-2
-enum-known-stated-2 c = search needs
-
-slice-write-made : tie.Need-slice-write-made
-slice-write-made c = search needs
-
-add-t29 : tie.Need-add-t29
-add-t29 c =
-    let o = c .before .before .before .before .before .before .before .before .before .before .before .before .before .before .before .before .before .before .before .before in
-    let a = o .args in
-    let n = receipt-fits (a .session) (now (a .table)) (now (a .frame)) (c .before .before .before .before .before .before .before .before .before .before .before .before .before .before .before .before .if1 .left) (c .before .before .before .before .before .before .before .before .before .before .before .before .before .before .if2 .left) (tail-is (now (a .frame)) 6)
-    (tail-long (now (a .made)) (o .pre .1)) (c .before .before .before .before .before .before .before .before .before .before .before .receive .ensures) (c .before .before .before .before .before .before .before .written .given .1) in
-    omega arith
-
-same-length-3 : tie.Need-same-length-3
-same-length-3 c = search needs
-
-returns-5 : tie.Need-returns-5
-unfolding part
-returns-5 c =
-    let o = c .before .before .before .before .before .before .before .before .before .before .before .before .before .before .before .before .before .before .before .before in
-    let a = o .args in
-    receipt-done (a .session) (now (a .table)) (now (a .frame)) (c .before .before .before .before .before .before .before .before .before .before .before .before .before .before .before .before .if1 .left) (c .before .before .before .before .before .before .before .before .before .before .before .before .before .before .if2 .left) (tail-is (now (a .frame)) 6)
-    (tail-long (now (a .made)) (o .pre .1)) (c .before .before .before .before .before .before .before .before .before .before .before .receive .ensures) (c .before .before .before .before .before .before .before .written .given .1)
-    (c .before .before .before .before .number4 .ensures) (c .before .before .before .validate .result) (c .before .before .before .validate .ensures) (now (a .made)) _ (o .pre .1) (c .before .stated2 .given .1)
+    let p = c .before .before .before .before .before in
+    let m = p .before .before .before .before in
+    let a = start m .args in
+    let path = rw (p .placed2 .given .1) at (m .receive-placed .ensures .path) in
+    receipt-done (a .session) (now (a .table)) (now (a .frame)) (long m) (fits m) (tail-is (now (a .frame)) 6) (tail-long (now (a .made)) (start m .pre .1)) (m .receive-placed .ensures .got) (ap toldPlaced (p .placed2 .given .1))
+    (path .0) (path .1) (c .before .before .before .value .ensures) (c .before .number4 .ensures) (c .path-state .ensures) (now (a .made)) _ (start m .pre .1)
 
 pub receipt-frame-spec : {M : Type 1} → statement M
 receipt-frame-spec =
@@ -120,28 +129,26 @@ receipt-frame-spec =
     (tie.spec
     returns
     shared-slice-read-len
+    prefix-length-ok-requires
     returns-2
     sub-block
     part-block-start
     part-block-end
-    sub-receive
-    part-receive-start
-    part-receive-end
-    receive-requires
-    enum-known-written
-    enum-told
+    sub-receive-placed
+    part-receive-placed-start
+    part-receive-placed-end
+    receive-placed-requires
+    enum-known-placed
     same-length
     returns-3
+    enum-known-placed-2
+    value-requires
     sub-number4
     part-number4-start
     part-number4-end
     number4-requires
-    validate-requires
-    enum-known-stated
-    same-length-2
-    returns-4
-    enum-known-stated-2
+    path-state-requires
     slice-write-made
-    add-t29
-    same-length-3
-    returns-5)
+    add-t27
+    same-length-2
+    returns-4)

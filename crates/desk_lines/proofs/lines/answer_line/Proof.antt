@@ -1,10 +1,12 @@
 -- `answer_line` meets its contract.
-use Prim.Native.Nat.{_/_}
-use mathlib.Core.Path.{sym, _∙_}
+use Prim.Native.Nat.{ℕ, _/_, _≤_}
+use mathlib.Core.Path.{_≡_, sym, _∙_}
+use mathlib.Core.Bool.{true}
+use mathlib.Core.List.{List}
 use native.Mathlib.Omega.{arith}
 use borrow.Author.Tests.{not-true, not-false}
 use denote.Ref.{now}
-use lib.ListN.{length}
+use lib.ListN.{length, take}
 use lib.Seq.{length-take-le}
 use Rattle.desk_lines.specs.Keeping.{replied}
 use Rattle.desk_lines.proofs.Saying.{answered-unreadable, answered-frame, reply-agrees}
@@ -12,114 +14,83 @@ use borrow.Author.Needs.{needs}
 use Rattle.desk_lines.proofs.lines.answer_line.Statement.{statement}
 use Rattle.desk_lines.proofs.lines.answer_line.Tie as tie
 
-add-number : tie.Need-add-number
-add-number c = search needs
+-- The line was read: where it stands is the start of all that follows.
+abbrev start : tie.After-read-line → tie.Start
+start r = r .before .before .before .before .before .before .before .before .before
 
-read-line-requires : tie.Need-read-line-requires
-read-line-requires c κs = search needs
+-- It is readable: its frame has at least one byte, and lies within `raw`.
+module _ (c : tie.Else1) where
+  abbrev half : ℕ
+  half = length (now (start (c .before .before .before) .args .line)) / 2
+
+  abbrev frame : List ℕ
+  frame = take half (c .before .before .before .read-line .last .1 .0)
+
+  readable : c .before .before .before .read-line .result ≡ true
+  readable = not-false _ (c .if1 .left)
+
+  frame-within : half ≤ length (c .before .before .before .read-line .last .1 .0)
+  frame-within =
+      let r = c .before .before .before in
+      omega (arith, r .read-line .ensures .within readable, r .read-line .kept .1 .0, start r .pre .2 .frame)
+
+  frame-length : half ≡ length frame
+  frame-length = sym (length-take-le half (c .before .before .before .read-line .last .1 .0) frame-within)
+
+  frame-some : 1 ≤ length frame
+  frame-some = omega (arith, c .before .before .before .read-line .ensures .some readable, frame-length)
 
 put-line-requires : tie.Need-put-line-requires
-put-line-requires c κs = (tt, omega (arith, c .before .before .before .before .before .before .before .before .before .before .before .before .before .before .pre .4))
-
-same-length : tie.Need-same-length
-same-length c = search needs
-
-same-length-2 : tie.Need-same-length-2
-same-length-2 c = search needs
-
-same-length-3 : tie.Need-same-length-3
-same-length-3 c = search needs
+put-line-requires c κs = (tt, omega (arith, start (c .before .before .before .before .before) .pre .2 .within))
 
 returns : tie.Need-returns
 unfolding replied
 returns c =
-    let b = c .before .before .before .before .before .before .before .before .before .before .before .before .before .before .before .before .before in
+    let p = c .before .before in
+    let t = p .before .before .before in
+    let r = t .before .before .before in
+    let b = start r in
     let a = b .args in
-    let p = c .before .before .put-line .ensures in
-    answered-unreadable (a .state) (now (a .table)) (now (a .line)) (sym (not-true _ (c .before .before .before .before .before .if1 .taken)) ∙ c .before .before .before .before .before .before .before .before .read-line .ensures .0) (b .pre .1) (p .0) (p .1)
+    answered-unreadable (a .state) (now (a .table)) (now (a .line)) (sym (not-true _ (t .if1 .taken)) ∙ r .read-line .ensures .is) (b .pre .1) (p .put-line .ensures .0) (p .put-line .ensures .1)
 
 slice-reshare-prefix-frame : tie.Need-slice-reshare-prefix-frame
-slice-reshare-prefix-frame c =
-    let b = c .before .before .before .before .before .before .before .before .before .before .before .before in
-    let n = length (now (b .args .line)) / 2 in
-    let r = c .before .before .before .read-line in
-    let f = r .ensures .1 (not-false _ (c .if1 .left)) in
-    omega (arith, f .2, r .kept .1 .0, b .pre .2)
+slice-reshare-prefix-frame c = frame-within c
 
 slice-aggregate-frame : tie.Need-slice-aggregate-frame
-slice-aggregate-frame c =
-    let b = c .before .before .before .before .before .before .before .before .before .before .before .before .before in
-    let n = length (now (b .args .line)) / 2 in
-    let r = c .before .before .before .before .read-line in
-    let f = r .ensures .1 (not-false _ (c .before .if1 .left)) in
-    sym (length-take-le n (r .last .1 .0) (omega (arith, f .2, r .kept .1 .0, b .pre .2)))
+slice-aggregate-frame c = frame-length (c .before)
 
 answer-frame-requires : tie.Need-answer-frame-requires
 answer-frame-requires c κs =
-    let b = c .before .before .before .before .before .before .before .before .before .before .before .before .before .before .before in
-    let n = length (now (b .args .line)) / 2 in
-    let r = c .before .before .before .before .before .before .read-line in
-    let f = r .ensures .1 (not-false _ (c .before .before .before .if1 .left)) in
-    (omega (arith, f .1, length-take-le n (r .last .1 .0) (omega (arith, f .2, r .kept .1 .0, b .pre .2))), b .pre .1, b .pre .3)
+    let e = c .before .before .before in
+    let b = start (e .before .before .before) in
+    (frame-some e, b .pre .1, b .pre .2 .result)
 
 put-line-requires-2 : tie.Need-put-line-requires-2
 put-line-requires-2 c κs =
-    let b = c .before .before .before .before .before .before .before .before .before .before .before .before .before .before .before .before .before .before .before .before in
-    (c .before .before .before .before .answer-frame .ensures .within, b .pre .4)
-
-is-done-requires : tie.Need-is-done-requires
-is-done-requires c κs = search needs
+    let f = c .before .before .before .before in
+    (f .answer-frame .ensures .within, start (f .before .before .before .before .before .before .before) .pre .2 .within)
 
 keep-frame-requires : tie.Need-keep-frame-requires
 keep-frame-requires c κs =
-    let b = c .before .before .before .before .before .before .before .before .before .before .before .before .before .before .before .before .before .before .before .before .before .before .before .before .before in
-    let n = length (now (b .args .line)) / 2 in
-    let r = c .before .before .before .before .before .before .before .before .before .before .before .before .before .before .before .before .read-line in
-    let f = r .ensures .1 (not-false _ (c .before .before .before .before .before .before .before .before .before .before .before .before .before .if1 .left)) in
-    (omega (arith, f .1, length-take-le n (r .last .1 .0) (omega (arith, f .2, r .kept .1 .0, b .pre .2))), b .pre .1, reply-agrees (c .before .before .before .before .before .before .before .before .before .answer-frame .ensures) (c .before .is-done .ensures))
-
-same-length-4 : tie.Need-same-length-4
-same-length-4 c = search needs
-
-same-length-5 : tie.Need-same-length-5
-same-length-5 c = search needs
-
-same-length-6 : tie.Need-same-length-6
-same-length-6 c = search needs
-
-same-length-7 : tie.Need-same-length-7
-same-length-7 c = search needs
+    let p = c .before .before .before .before in
+    let f = p .before .before .before .before .before in
+    let e = f .before .before .before .before in
+    (frame-some e, start (e .before .before .before) .pre .1, reply-agrees (f .answer-frame .ensures) (c .before .is-done .ensures))
 
 returns-2 : tie.Need-returns-2
 returns-2 c =
-    let b = c .before .before .before .before .before .before .before .before .before .before .before .before .before .before .before .before .before .before .before .before .before .before .before .before .before .before .before .before in
-    let n = length (now (b .args .line)) / 2 in
-    let r = c .before .before .before .before .before .before .before .before .before .before .before .before .before .before .before .before .before .before .before .read-line in
-    let f = r .ensures .1 (not-false _ (c .before .before .before .before .before .before .before .before .before .before .before .before .before .before .before .before .if1 .left)) in
-    let a = b .args in
-    let k = c .before .before .keep-frame .ensures in
-    let p = c .before .before .before .before .before .before .before .put-line2 .ensures in
-    answered-frame (a .state) (now (a .table)) (now (a .line)) (sym (not-false _ (c .before .before .before .before .before .before .before .before .before .before .before .before .before .before .before .before .if1 .left)) ∙ r .ensures .0) (f .0) (c .before .before .before .before .before .before .before .before .before .before .before .before .answer-frame .ensures) (k .0) (k .1) (p .0) (p .1)
+    let k = c .before .before in
+    let p = k .before .before .before .before .before in
+    let f = p .before .before .before .before .before in
+    let e = f .before .before .before .before in
+    let r = e .before .before .before in
+    let a = start r .args in
+    answered-frame (a .state) (now (a .table)) (now (a .line)) (sym (readable e) ∙ r .read-line .ensures .is) (r .read-line .ensures .spells (readable e)) (f .answer-frame .ensures) (k .keep-frame .ensures .0) (k .keep-frame .ensures .1) (p .put-line2 .ensures .0) (p .put-line2 .ensures .1)
 
 pub answer-line-spec : {M : Type 1} → statement M
 answer-line-spec =
     tie.close
-    (tie.spec
-    add-number
-    read-line-requires
-    put-line-requires
-    same-length
-    same-length-2
-    same-length-3
-    returns
-    slice-reshare-prefix-frame
-    slice-aggregate-frame
-    answer-frame-requires
-    put-line-requires-2
-    is-done-requires
-    keep-frame-requires
-    same-length-4
-    same-length-5
-    same-length-6
-    same-length-7
+    (tie.spec (λ c. search needs) (λ c κs. search needs) put-line-requires (λ c. search needs) (λ c. search needs)
+    (λ c. search needs) returns slice-reshare-prefix-frame slice-aggregate-frame answer-frame-requires put-line-requires-2
+    (λ c κs. search needs) keep-frame-requires (λ c. search needs) (λ c. search needs) (λ c. search needs) (λ c. search needs)
     returns-2)

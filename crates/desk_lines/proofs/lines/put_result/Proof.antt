@@ -1,29 +1,17 @@
 -- `put_result` meets its contract.
 use native.Mathlib.Omega.{arith}
 use denote.Ref.{now}
-use Rattle.desk_lines.proofs.Spelling.{hex-length}
+use Rattle.text.proofs.Spelling.{hex-length}
 use Rattle.desk_lines.proofs.Saying.{shown-none, shown-some}
 use borrow.Author.Needs.{needs}
 use Rattle.desk_lines.proofs.lines.put_result.Statement.{statement}
 use Rattle.desk_lines.proofs.lines.put_result.Tie as tie
-
-put-byte-requires : tie.Need-put-byte-requires
-put-byte-requires c κs = search needs
-
-same-length : tie.Need-same-length
-same-length c = search needs
 
 returns : tie.Need-returns
 returns c =
     let a = c .before .before .before .before .before .before .before .args in
     let p = c .before .before .put-byte .ensures in
     (rw (shown-none (now (a .result)) (c .before .before .before .before .if1 .taken)) p, omega (arith, p .next))
-
-put-hex-requires : tie.Need-put-hex-requires
-put-hex-requires c κs = search needs
-
-same-length-2 : tie.Need-same-length-2
-same-length-2 c = search needs
 
 returns-2 : tie.Need-returns-2
 returns-2 c =
@@ -35,4 +23,4 @@ returns-2 c =
 pub put-result-spec : {M : Type 1} → statement M
 put-result-spec =
     tie.close
-    (tie.spec put-byte-requires same-length returns put-hex-requires same-length-2 returns-2)
+    (tie.spec (λ c κs. search needs) (λ c. search needs) returns (λ c κs. search needs) (λ c. search needs) returns-2)

@@ -1,7 +1,7 @@
 -- An AS that is not 0 is told as itself.
 use native.Mathlib.Omega.{arith}
 use borrow.Author.Tests.{ne-eqb}
-use Rattle.policy.specs.Plan.{toldOtc}
+use Rattle.rewriting.specs.Plan.{toldOtc}
 use Rattle.policy.proofs.judge.otc_if.Statement.{statement}
 use Rattle.policy.proofs.judge.otc_if.Tie as tie
 

@@ -3,7 +3,7 @@ use borrow.Author.Needs.{needs}
 use borrow.Author.Tests.{eq-eqb, ne-eqb}
 use Rattle.rules.specs.Roles.{remoteRole}
 use Rattle.rules.specs.Sending.{tagSent}
-use Rattle.policy.specs.Plan.{toldTag}
+use Rattle.communities.specs.Tags.{toldTag}
 use Rattle.policy.proofs.Judging.{state-told}
 use Rattle.policy.proofs.judge.sent_tag.Statement.{statement}
 use Rattle.policy.proofs.judge.sent_tag.Tie as tie

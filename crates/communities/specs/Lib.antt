@@ -1,0 +1,3 @@
+-- What the code hands on of tags: the test of which communities are dropped, and the bytes of a new tag.
+pub mod Tags
+pub mod Received

@@ -1,0 +1,24 @@
+-- Tags as the code hands them on: the test of which communities are dropped by its number, what is left of one community, and the
+-- bytes of a new tag by its state. Internal: `dropCommunities` and `tag` of `rules` say what they come to.
+use mathlib.Core.Bool.{Bool, cond}
+use mathlib.Core.List.{List, []}
+use mathlib.Core.Option.{Option, none, some}
+use Prim.Native.Nat.{ℕ}
+use lib.Dec.{leb}
+use Rattle.rules.specs.Settings.{invalid}
+use Rattle.rules.specs.Changes.{isTag, tag}
+
+-- The test that a number picks. There is one: "drop every community that begins 43 00".
+unfoldable pub dropTest : ℕ → List ℕ → Bool
+dropTest test c = isTag c
+
+-- What is left of a community: nothing of one that is dropped, else all of it.
+unfoldable pub kept : (List ℕ → Bool) → List ℕ → List ℕ
+kept dropped c = cond (dropped c) [] c
+
+-- The state that a tag is to tell: 3, unavailable, stands for no tag.
+unfoldable pub toldTag : ℕ → Option ℕ
+toldTag state = cond (leb state invalid) (some state) none
+
+unfoldable pub tagBytes : ℕ → List ℕ
+tagBytes state = cond (leb state invalid) (tag state) []

@@ -1,0 +1,183 @@
+-- `receive_placed` meets its contract: each way out by its law, in the order of answers.
+use mathlib.Core.Path.{_≡_, sym, ap, _∙_}
+use mathlib.Core.Bool.{Bool, true}
+use mathlib.Core.List.{List}
+use Prim.Native.Nat.{ℕ}
+use denote.Ref.{now}
+use lib.Dec.{leb}
+use lib.ListN.{length}
+use borrow.Author.Tests.{not-true, not-false}
+use Rattle.rules.specs.Answers.{Check}
+use Rattle.rules.specs.Settings.{blockMax, sessionOk}
+use Rattle.rules.specs.Attributes.{Attribute, attributes}
+use Rattle.rules.specs.Changes.{Leaves}
+use Rattle.rules.specs.Receipt.{receiptRules, receiptResult, receiptVerdict}
+use Rattle.rules.specs.declared.Refusal.the-variants.{Ineligible}
+use Rattle.rules.proofs.Checked.{Late}
+use Rattle.communities.specs.Tags.{dropTest, toldTag}
+use Rattle.attributes.specs.declared.layout.Layout.{Layout}
+use Rattle.rewriting.specs.Plan.{ReadBlock}
+use Rattle.rewriting.specs.Stores.{toldOutput}
+use Rattle.policy.specs.Judge.{ruled, judged}
+use Rattle.policy.specs.Placed.{toldPlaced}
+use Rattle.policy.proofs.Judging.{receipt-late}
+use Rattle.policy.proofs.Readings.{read-clean, has-found, otc-found}
+use Rattle.policy.proofs.Leaving.{leaves-setting, leaves-length, leaves-fault, leaves-rule, leaves-output}
+use borrow.Author.Needs.{needs}
+use Rattle.policy.proofs.receive_placed.Statement.{statement}
+use Rattle.policy.proofs.receive_placed.Tie as tie
+
+module _ (s : tie.Start) where
+  abbrev ok : Bool
+  ok = sessionOk (s .args .session)
+
+  abbrev block : List ℕ
+  block = now (s .args .block)
+
+  abbrev rules : List Check
+  rules = receiptRules (s .args .session) (attributes (now (s .args .block)))
+
+  abbrev result : List Attribute
+  result = receiptResult (s .args .session) (attributes (now (s .args .block)))
+
+  late : Late (receiptRules (s .args .session) (attributes (now (s .args .block))))
+  late = receipt-late (s .args .session) (attributes (now (s .args .block)))
+
+-- What is known of the session, of the size and of the block where the code has gone on.
+valid : (c : tie.Else1) → ok (c .before .before .before .before) ≡ true
+valid c = sym (c .before .session-ok .ensures) ∙ not-false _ (c .if1 .left)
+
+small : (c : tie.Else2) → leb (length (now (c .before .before .before .before .before .before .args .block))) blockMax ≡ true
+small c = sym (c .before .block-size-ok .ensures) ∙ not-false _ (c .if2 .left)
+
+abbrev start : tie.After-reading2 → tie.Start
+start c = c .before .before .before .before .before .before .before .before .before
+
+-- The block is clean, and this is its layout.
+clean : (c : tie.After-reading2) → ReadBlock (now (start c .args .block)) (c .reading2 .given .0 .0)
+clean c = read-clean _ (small (c .before .before .before)) (c .before .before .read .ensures) (c .reading2 .given .1)
+
+-- The rule that the code finds is what the rules answer.
+found : (c : tie.After-receipt-rule) → judged (rules (start (c .before .before .before .before))) ≡ ruled (λ k. Ineligible k) (c .receipt-rule .result)
+found c =
+    let r = c .before .before .before .before in
+    c .receipt-rule .ensures (attributes (now (start r .args .block))) (has-found (clean r)) (otc-found (clean r) (c .before .before .value .ensures) (c .before .otc-as .ensures))
+
+-- What the block stored, or that there was no room for it, says of receipt.
+output : (c : tie.After-store) → let s = start (c .before .before .before .before .before .before .before .before) in
+    Leaves (receiptVerdict (s .args .session) (block s)) (now (s .args .out)) (toldOutput (c .store .result)) (c .store .last .1 .1 .1 .1 .1 .1 .0)
+unfolding receiptVerdict receiptResult toldTag dropTest
+output c =
+    let o = c .before .before in
+    let q = o .before .before in
+    let r = q .before .before .before .before in
+    let s = start r in
+    leaves-output (ok s) (block s) (rules s) (late s) (result s) (now (s .args .out)) (valid (r .before .before .before .before .before)) (clean r) (λ k. Ineligible k) (q .receipt-rule .result) (found q) (o .before .if3 .left)
+    (rw (o .received-otc .ensures) at (c .store .ensures))
+
+session-ok-requires : tie.Need-session-ok-requires
+session-ok-requires c κs = search needs
+
+returns : tie.Need-returns
+unfolding toldPlaced receiptVerdict
+returns c =
+    let s = c .before .before .before .before in
+    record { got = leaves-setting (ok s) (block s) (rules s) (late s) (result s) (now (s .args .out)) (sym (c .before .session-ok .ensures) ∙ not-true _ (c .if1 .taken)); path = tt }
+
+block-size-ok-requires : tie.Need-block-size-ok-requires
+block-size-ok-requires c κs = search needs
+
+returns-2 : tie.Need-returns-2
+unfolding toldPlaced receiptVerdict
+returns-2 c =
+    let e = c .before .before in
+    let s = e .before .before .before .before in
+    record { got = leaves-length (ok s) (block s) (rules s) (late s) (result s) (now (s .args .out)) (valid e) (sym (c .before .block-size-ok .ensures) ∙ not-true _ (c .if2 .taken)); path = tt }
+
+read-requires : tie.Need-read-requires
+read-requires c κs = search needs
+
+enum-known-reading : tie.Need-enum-known-reading
+enum-known-reading c = search needs
+
+returns-3 : tie.Need-returns-3
+unfolding toldPlaced receiptVerdict
+returns-3 c =
+    let g = c .before .before .before .before in
+    let e = g .before .before in
+    let s = e .before .before .before .before in
+    record { got = leaves-fault (ok s) (block s) (rules s) (late s) (result s) (now (s .args .out)) (valid e) (small g) (c .before .before .before .read .ensures) (c .before .reading .given .1); path = tt }
+
+enum-known-reading-2 : tie.Need-enum-known-reading-2
+enum-known-reading-2 c = search needs
+
+value-requires : tie.Need-value-requires
+value-requires c κs = search needs
+
+otc-as-requires : tie.Need-otc-as-requires
+otc-as-requires c κs = search needs
+
+receipt-rule-requires : tie.Need-receipt-rule-requires
+receipt-rule-requires c κs = search needs
+
+returns-4 : tie.Need-returns-4
+unfolding toldPlaced receiptVerdict
+returns-4 c =
+    let q = c .before in
+    let r = q .before .before .before .before in
+    let s = start r in
+    record { got = leaves-rule (ok s) (block s) (rules s) (late s) (result s) (now (s .args .out)) (valid (r .before .before .before .before .before)) (clean r) (λ k. Ineligible k) (q .receipt-rule .result) (found q) (c .if3 .taken); path = tt }
+
+received-otc-requires : tie.Need-received-otc-requires
+received-otc-requires c κs = valid (c .before .before .before .before .before .before .before .before .before .before)
+
+store-requires : tie.Need-store-requires
+store-requires c κs = clean (c .before .before .before .before .before .before .before)
+
+enum-told : tie.Need-enum-told
+enum-told c = search needs
+
+enum-known-output : tie.Need-enum-known-output
+enum-known-output c = search needs
+
+same-length : tie.Need-same-length
+same-length c = search needs
+
+returns-5 : tie.Need-returns-5
+unfolding toldPlaced toldOutput
+returns-5 c = record { got = rw (c .enum-told .given .1) at (output (c .before .before .before .before)); path = tt }
+
+same-length-2 : tie.Need-same-length-2
+same-length-2 c = search needs
+
+returns-6 : tie.Need-returns-6
+unfolding toldPlaced toldOutput
+returns-6 c =
+    let m = c .before .before .before .before .before in
+    let w = clean (m .before .before .before .before .before .before .before .before) in
+    record { got = rw (c .before .output .given .1) at (output m); path = (w .clean, ap (λ (l : Layout). l .«as_path») (w .is)) }
+
+pub receive-placed-spec : {M : Type 1} → statement M
+receive-placed-spec =
+    tie.close
+    (tie.spec
+    session-ok-requires
+    returns
+    block-size-ok-requires
+    returns-2
+    read-requires
+    enum-known-reading
+    returns-3
+    enum-known-reading-2
+    value-requires
+    otc-as-requires
+    receipt-rule-requires
+    returns-4
+    received-otc-requires
+    store-requires
+    enum-told
+    enum-known-output
+    same-length
+    returns-5
+    same-length-2
+    returns-6)

@@ -1,0 +1,81 @@
+-- `make_plan` meets its contract: the numbers of the plan are those of the block.
+use mathlib.Core.Path.{_≡_, _∙_, ap}
+use mathlib.Core.List.{List}
+use Prim.Native.Nat.{ℕ}
+use native.Mathlib.Omega.{arith}
+use denote.Ref.{now}
+use lib.ListN.{length}
+use Rattle.attributes.specs.Layout.{valueAt}
+use Rattle.rules.specs.Changes.{dropFrom}
+use Rattle.communities.specs.Tags.{dropTest}
+use Rattle.rewriting.proofs.Planning.{plan-sizing, plan-left, plan-rest, plan-made}
+use borrow.Author.Needs.{needs}
+use Rattle.rewriting.proofs.planner.make_plan.Statement.{statement}
+use Rattle.rewriting.proofs.planner.make_plan.Tie as tie
+
+attribute-size-requires : tie.Need-attribute-size-requires
+attribute-size-requires c κs = search needs
+
+value-requires : tie.Need-value-requires
+value-requires c κs = search needs
+
+left-size-requires : tie.Need-left-size-requires
+left-size-requires c κs = search needs
+
+otc-to-add-requires : tie.Need-otc-to-add-requires
+otc-to-add-requires c κs = search needs
+
+new-tag-size-requires : tie.Need-new-tag-size-requires
+new-tag-size-requires c κs = search needs
+
+new-otc-size-requires : tie.Need-new-otc-size-requires
+new-otc-size-requires c κs = search needs
+
+-- What is known once the sizes of the new attributes are found.
+abbrev start : tie.After-new-otc-size → tie.Start
+start c = c .before .before .before .before .before .before .before
+
+left-found : (c : tie.After-new-otc-size) → c .before .before .before .left-size .result
+    ≡ length (dropFrom (dropTest (start c .args .test)) (valueAt (start c .args .layout .communities) (now (start c .args .block))))
+left-found c = c .before .before .before .left-size .ensures .0 ∙ ap (λ (v : List ℕ). length (dropFrom (dropTest (start c .args .test)) v)) (c .before .before .before .before .value .ensures)
+
+turned-size-requires : tie.Need-turned-size-requires
+turned-size-requires m κs =
+    let s = start m in
+    plan-sizing (s .pre) (s .args .test) (s .args .flags) (s .args .state) (s .args .asn) (m .before .before .before .before .before .attribute-size .ensures) (left-found m) (m .before .before .otc-to-add .ensures)
+
+add-size : tie.Need-add-size
+add-size c = search needs
+
+add-size-2 : tie.Need-add-size-2
+add-size-2 c = search needs
+
+add-t15 : tie.Need-add-t15
+add-t15 c =
+    let m = c .before in
+    let s = start m in
+    omega (arith, plan-rest (s .pre) (s .args .test) (s .args .flags) (s .args .state) (s .args .asn) (m .before .before .before .before .before .attribute-size .ensures) (left-found m) (m .before .before .otc-to-add .ensures))
+
+returns : tie.Need-returns
+returns c =
+    let m = c .before in
+    let s = start m in
+    let left = plan-left (s .pre) (s .args .test) (s .args .flags) (s .args .state) (s .args .asn) (m .before .before .before .before .before .attribute-size .ensures) (left-found m) (m .before .before .otc-to-add .ensures) in
+    plan-made (s .pre) (s .args .test) (s .args .flags) (s .args .state) (s .args .asn) (m .before .before .before .before .before .attribute-size .ensures) (left-found m) (m .before .before .otc-to-add .ensures)
+    (omega (arith, c .turned-size .ensures .0 (dropTest (s .args .test)) left, m .before .new-tag-size .ensures .0 (s .args .flags), m .new-otc-size .ensures .0 (s .args .flags)))
+
+pub make-plan-spec : {M : Type 1} → statement M
+make-plan-spec =
+    tie.close
+    (tie.spec
+    attribute-size-requires
+    value-requires
+    left-size-requires
+    otc-to-add-requires
+    new-tag-size-requires
+    new-otc-size-requires
+    turned-size-requires
+    add-size
+    add-size-2
+    add-t15
+    returns)

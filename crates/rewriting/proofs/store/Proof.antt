@@ -1,0 +1,56 @@
+use Prim.Native.Nat.{ℕ}
+use mathlib.Core.Path.{_≡_, ap, _∙_}
+use mathlib.Core.List.{List}
+use native.Mathlib.Omega.{arith}
+use lib.ListN.{length}
+use denote.Ref.{now}
+use Rattle.rules.specs.Attributes.{Attribute, attributes, encode}
+use Rattle.rules.specs.Changes.{rewritten}
+use Rattle.communities.specs.Tags.{dropTest, toldTag}
+use Rattle.rewriting.specs.Plan.{toldOtc}
+use Rattle.rewriting.specs.Stores.{toldOutput}
+use Rattle.rewriting.proofs.Rooms.{no-room, too-long, stored-whole}
+use borrow.Author.Needs.{needs}
+use Rattle.rewriting.proofs.store.Statement.{statement}
+use Rattle.rewriting.proofs.store.Tie as tie
+
+-- The attributes as they go out.
+abbrev outgoing : tie.Start → List Attribute
+outgoing s = rewritten (dropTest (s .args .test)) (s .args .flags) (toldTag (s .args .tag)) (toldOtc (s .args .asn)) (attributes (now (s .args .block)))
+
+make-plan-requires : tie.Need-make-plan-requires
+make-plan-requires c κs = search needs
+
+returns : tie.Need-returns
+unfolding toldOutput
+returns c =
+    let s = c .before .before .before .before in
+    let p = c .before .make-plan .ensures in
+    let q : c .before .make-plan .result .size ≡ length (encode (outgoing s)) = p .size ∙ ap length (p .is) in
+    no-room (outgoing s) (now (s .args .out)) (omega (arith, q, c .if1 .taken))
+
+returns-2 : tie.Need-returns-2
+unfolding toldOutput
+returns-2 c =
+    let s = c .before .before .before .before .before in
+    let p = c .before .before .make-plan .ensures in
+    let q : c .before .before .make-plan .result .size ≡ length (encode (outgoing s)) = p .size ∙ ap length (p .is) in
+    too-long (outgoing s) (now (s .args .out)) (omega (arith, q, c .before .if1 .left)) (omega (arith, q, c .if2 .taken))
+
+write-requires : tie.Need-write-requires
+write-requires c κs = search needs
+
+same-length : tie.Need-same-length
+same-length c = search needs
+
+returns-3 : tie.Need-returns-3
+unfolding toldOutput
+returns-3 c =
+    let s = c .before .before .before .before .before .before .before .before .before in
+    let p = c .before .before .before .before .before .before .make-plan .ensures in
+    let q : c .before .before .before .before .before .before .make-plan .result .size ≡ length (encode (outgoing s)) = p .size ∙ ap length (p .is) in
+    stored-whole (outgoing s) (now (s .args .out)) (omega (arith, q, c .before .before .before .before .before .if1 .left)) (omega (arith, q, c .before .before .before .before .if2 .left)) (rw (p .is) at (c .before .before .write .ensures))
+
+pub store-spec : {M : Type 1} → statement M
+store-spec =
+    tie.close (tie.spec make-plan-requires returns returns-2 write-requires same-length returns-3)

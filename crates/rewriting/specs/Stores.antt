@@ -1,0 +1,20 @@
+-- What storing a block promises. Internal: `Got` and `Sent` of `rules` say what receipt and sending do.
+use mathlib.Core.List.{List}
+use Prim.Native.Nat.{ℕ}
+use Rattle.rules.specs.Answers.{Answer, done, refused}
+use Rattle.rules.specs.Attributes.{attributes}
+use Rattle.rules.specs.Changes.{rewritten, Leaves}
+use Rattle.rules.specs.declared.Refusal.the-variants.{NoRoom}
+use Rattle.communities.specs.Tags.{dropTest, toldTag}
+use Rattle.rewriting.specs.declared.plan.Output.{Output}
+use Rattle.rewriting.specs.declared.plan.Output.the-variants.{Bytes, Full}
+use Rattle.rewriting.specs.Plan.{toldOtc}
+
+unfoldable pub toldOutput : Output → Answer ℕ
+toldOutput (Bytes n) = done n
+toldOutput Full = refused NoRoom
+
+-- The block is rewritten with the test of what is dropped, the flags, the tag and the OTC that these numbers stand for.
+abbrev pub Rewrites : ℕ → ℕ → ℕ → ℕ → List ℕ → List ℕ → Output → List ℕ → Type 0
+Rewrites test flags tag asn b before r after =
+    Leaves (done (rewritten (dropTest test) flags (toldTag tag) (toldOtc asn) (attributes b))) before (toldOutput r) after

@@ -1,0 +1,4 @@
+-- What decoding stores, what cutting a line promises, and what a machine promises that answers lines however its input is cut.
+pub mod Hex
+pub mod Lines
+pub mod Feeding
