@@ -5,24 +5,9 @@ use borrow.Author.Needs.{needs}
 use Rattle.policy.proofs.receive.Statement.{statement}
 use Rattle.policy.proofs.receive.Tie as tie
 
-receive-placed-requires : tie.Need-receive-placed-requires
-receive-placed-requires c κs = search needs
-
-enum-known-placed : tie.Need-enum-known-placed
-enum-known-placed c = search needs
-
-enum-known-placed-2 : tie.Need-enum-known-placed-2
-enum-known-placed-2 c = search needs
-
-same-length : tie.Need-same-length
-same-length c = search needs
-
 returns : tie.Need-returns
 unfolding toldReceived toldPlaced
 returns c = rw (c .before .placed .given .1) at (c .before .before .before .before .before .receive-placed .ensures .got)
-
-same-length-2 : tie.Need-same-length-2
-same-length-2 c = search needs
 
 returns-2 : tie.Need-returns-2
 unfolding toldReceived toldPlaced
@@ -31,11 +16,4 @@ returns-2 c = rw (c .before .placed2 .given .1) at (c .before .before .before .b
 pub receive-spec : {M : Type 1} → statement M
 receive-spec =
     tie.close
-    (tie.spec
-    receive-placed-requires
-    enum-known-placed
-    enum-known-placed-2
-    same-length
-    returns
-    same-length-2
-    returns-2)
+    (tie.spec (λ c κs. search needs) (λ c. search needs) (λ c. search needs) (λ c. search needs) returns (λ c. search needs) returns-2)

@@ -75,17 +75,11 @@ output c =
     leaves-output (ok s) (block s) (rules s) (late s) (result s) (now (s .args .out)) (valid (r .before .before .before .before .before)) (clean r) (λ k. Ineligible k) (q .receipt-rule .result) (found q) (o .before .if3 .left)
     (rw (o .received-otc .ensures) at (c .store .ensures))
 
-session-ok-requires : tie.Need-session-ok-requires
-session-ok-requires c κs = search needs
-
 returns : tie.Need-returns
 unfolding toldPlaced receiptVerdict
 returns c =
     let s = c .before .before .before .before in
     record { got = leaves-setting (ok s) (block s) (rules s) (late s) (result s) (now (s .args .out)) (sym (c .before .session-ok .ensures) ∙ not-true _ (c .if1 .taken)); path = tt }
-
-block-size-ok-requires : tie.Need-block-size-ok-requires
-block-size-ok-requires c κs = search needs
 
 returns-2 : tie.Need-returns-2
 unfolding toldPlaced receiptVerdict
@@ -94,12 +88,6 @@ returns-2 c =
     let s = e .before .before .before .before in
     record { got = leaves-length (ok s) (block s) (rules s) (late s) (result s) (now (s .args .out)) (valid e) (sym (c .before .block-size-ok .ensures) ∙ not-true _ (c .if2 .taken)); path = tt }
 
-read-requires : tie.Need-read-requires
-read-requires c κs = search needs
-
-enum-known-reading : tie.Need-enum-known-reading
-enum-known-reading c = search needs
-
 returns-3 : tie.Need-returns-3
 unfolding toldPlaced receiptVerdict
 returns-3 c =
@@ -107,18 +95,6 @@ returns-3 c =
     let e = g .before .before in
     let s = e .before .before .before .before in
     record { got = leaves-fault (ok s) (block s) (rules s) (late s) (result s) (now (s .args .out)) (valid e) (small g) (c .before .before .before .read .ensures) (c .before .reading .given .1); path = tt }
-
-enum-known-reading-2 : tie.Need-enum-known-reading-2
-enum-known-reading-2 c = search needs
-
-value-requires : tie.Need-value-requires
-value-requires c κs = search needs
-
-otc-as-requires : tie.Need-otc-as-requires
-otc-as-requires c κs = search needs
-
-receipt-rule-requires : tie.Need-receipt-rule-requires
-receipt-rule-requires c κs = search needs
 
 returns-4 : tie.Need-returns-4
 unfolding toldPlaced receiptVerdict
@@ -134,21 +110,9 @@ received-otc-requires c κs = valid (c .before .before .before .before .before .
 store-requires : tie.Need-store-requires
 store-requires c κs = clean (c .before .before .before .before .before .before .before)
 
-enum-told : tie.Need-enum-told
-enum-told c = search needs
-
-enum-known-output : tie.Need-enum-known-output
-enum-known-output c = search needs
-
-same-length : tie.Need-same-length
-same-length c = search needs
-
 returns-5 : tie.Need-returns-5
 unfolding toldPlaced toldOutput
 returns-5 c = record { got = rw (c .enum-told .given .1) at (output (c .before .before .before .before)); path = tt }
-
-same-length-2 : tie.Need-same-length-2
-same-length-2 c = search needs
 
 returns-6 : tie.Need-returns-6
 unfolding toldPlaced toldOutput
@@ -160,24 +124,6 @@ returns-6 c =
 pub receive-placed-spec : {M : Type 1} → statement M
 receive-placed-spec =
     tie.close
-    (tie.spec
-    session-ok-requires
-    returns
-    block-size-ok-requires
-    returns-2
-    read-requires
-    enum-known-reading
-    returns-3
-    enum-known-reading-2
-    value-requires
-    otc-as-requires
-    receipt-rule-requires
-    returns-4
-    received-otc-requires
-    store-requires
-    enum-told
-    enum-known-output
-    same-length
-    returns-5
-    same-length-2
-    returns-6)
+    (tie.spec (λ c κs. search needs) returns (λ c κs. search needs) returns-2 (λ c κs. search needs) (λ c. search needs) returns-3
+    (λ c. search needs) (λ c κs. search needs) (λ c κs. search needs) (λ c κs. search needs) returns-4 received-otc-requires store-requires
+    (λ c. search needs) (λ c. search needs) (λ c. search needs) returns-5 (λ c. search needs) returns-6)

@@ -72,17 +72,11 @@ output c =
     leaves-output (ok s) (block s) (rules s) (late s) (result s) (now (s .args .out)) (valid (r .before .before .before .before .before)) (clean r) (λ k. Withheld k) (q .sending-rule .result) (found q) (o .before .before .if3 .left)
     (rw (o .before .sent-tag .ensures, o .sent-otc .ensures) at (c .store .ensures))
 
-sending-ok-requires : tie.Need-sending-ok-requires
-sending-ok-requires c κs = search needs
-
 returns : tie.Need-returns
 unfolding toldAdvertised sendingVerdict
 returns c =
     let s = c .before .before .before .before in
     leaves-setting (ok s) (block s) (rules s) (late s) (result s) (now (s .args .out)) (sym (c .before .sending-ok .ensures) ∙ not-true _ (c .if1 .taken))
-
-block-size-ok-requires : tie.Need-block-size-ok-requires
-block-size-ok-requires c κs = search needs
 
 returns-2 : tie.Need-returns-2
 unfolding toldAdvertised sendingVerdict
@@ -90,12 +84,6 @@ returns-2 c =
     let e = c .before .before in
     let s = e .before .before .before .before in
     leaves-length (ok s) (block s) (rules s) (late s) (result s) (now (s .args .out)) (valid e) (sym (c .before .block-size-ok .ensures) ∙ not-true _ (c .if2 .taken))
-
-read-requires : tie.Need-read-requires
-read-requires c κs = search needs
-
-enum-known-reading : tie.Need-enum-known-reading
-enum-known-reading c = search needs
 
 returns-3 : tie.Need-returns-3
 unfolding toldAdvertised sendingVerdict
@@ -105,12 +93,6 @@ returns-3 c =
     let s = e .before .before .before .before in
     leaves-fault (ok s) (block s) (rules s) (late s) (result s) (now (s .args .out)) (valid e) (small g) (c .before .before .before .read .ensures) (c .before .reading .given .1)
 
-enum-known-reading-2 : tie.Need-enum-known-reading-2
-enum-known-reading-2 c = search needs
-
-sending-rule-requires : tie.Need-sending-rule-requires
-sending-rule-requires c κs = search needs
-
 returns-4 : tie.Need-returns-4
 unfolding toldAdvertised sendingVerdict
 returns-4 c =
@@ -118,9 +100,6 @@ returns-4 c =
     let r = q .before .before in
     let s = start r in
     leaves-rule (ok s) (block s) (rules s) (late s) (result s) (now (s .args .out)) (valid (r .before .before .before .before .before)) (clean r) (λ k. Withheld k) (q .sending-rule .result) (found q) (c .if3 .taken)
-
-sent-tag-requires : tie.Need-sent-tag-requires
-sent-tag-requires c κs = search needs
 
 sent-otc-requires : tie.Need-sent-otc-requires
 sent-otc-requires c κs =
@@ -131,21 +110,9 @@ sent-otc-requires c κs =
 store-requires : tie.Need-store-requires
 store-requires c κs = clean (c .before .before .before .before .before .before)
 
-enum-told : tie.Need-enum-told
-enum-told c = search needs
-
-enum-known-output : tie.Need-enum-known-output
-enum-known-output c = search needs
-
-same-length : tie.Need-same-length
-same-length c = search needs
-
 returns-5 : tie.Need-returns-5
 unfolding toldAdvertised toldOutput
 returns-5 c = rw (c .enum-told .given .1) at (output (c .before .before .before .before))
-
-same-length-2 : tie.Need-same-length-2
-same-length-2 c = search needs
 
 returns-6 : tie.Need-returns-6
 unfolding toldAdvertised toldOutput
@@ -154,23 +121,6 @@ returns-6 c = rw (c .before .output .given .1) at (output (c .before .before .be
 pub send-spec : {M : Type 1} → statement M
 send-spec =
     tie.close
-    (tie.spec
-    sending-ok-requires
-    returns
-    block-size-ok-requires
-    returns-2
-    read-requires
-    enum-known-reading
-    returns-3
-    enum-known-reading-2
-    sending-rule-requires
-    returns-4
-    sent-tag-requires
-    sent-otc-requires
-    store-requires
-    enum-told
-    enum-known-output
-    same-length
-    returns-5
-    same-length-2
-    returns-6)
+    (tie.spec (λ c κs. search needs) returns (λ c κs. search needs) returns-2 (λ c κs. search needs) (λ c. search needs) returns-3
+    (λ c. search needs) (λ c κs. search needs) returns-4 (λ c κs. search needs) sent-otc-requires store-requires (λ c. search needs)
+    (λ c. search needs) (λ c. search needs) returns-5 (λ c. search needs) returns-6)

@@ -18,9 +18,6 @@ use Rattle.rewriting.proofs.store.Tie as tie
 abbrev outgoing : tie.Start → List Attribute
 outgoing s = rewritten (dropTest (s .args .test)) (s .args .flags) (toldTag (s .args .tag)) (toldOtc (s .args .asn)) (attributes (now (s .args .block)))
 
-make-plan-requires : tie.Need-make-plan-requires
-make-plan-requires c κs = search needs
-
 returns : tie.Need-returns
 unfolding toldOutput
 returns c =
@@ -37,12 +34,6 @@ returns-2 c =
     let q : c .before .before .make-plan .result .size ≡ length (encode (outgoing s)) = p .size ∙ ap length (p .is) in
     too-long (outgoing s) (now (s .args .out)) (omega (arith, q, c .before .if1 .left)) (omega (arith, q, c .if2 .taken))
 
-write-requires : tie.Need-write-requires
-write-requires c κs = search needs
-
-same-length : tie.Need-same-length
-same-length c = search needs
-
 returns-3 : tie.Need-returns-3
 unfolding toldOutput
 returns-3 c =
@@ -53,4 +44,5 @@ returns-3 c =
 
 pub store-spec : {M : Type 1} → statement M
 store-spec =
-    tie.close (tie.spec make-plan-requires returns returns-2 write-requires same-length returns-3)
+    tie.close
+    (tie.spec (λ c κs. search needs) returns returns-2 (λ c κs. search needs) (λ c. search needs) returns-3)

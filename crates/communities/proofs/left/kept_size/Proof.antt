@@ -9,9 +9,6 @@ use Rattle.communities.proofs.Dropped.{kept-none, kept-whole}
 use Rattle.communities.proofs.left.kept_size.Statement.{statement}
 use Rattle.communities.proofs.left.kept_size.Tie as tie
 
-is-dropped-requires : tie.Need-is-dropped-requires
-is-dropped-requires c κs = search needs
-
 returns : tie.Need-returns
 returns c = omega (arith, ap length (kept-none (dropTest (c .before .before .before .args .test)) (now (c .before .before .before .args .c)) (sym (c .before .is-dropped .ensures) ∙ c .if1 .taken)))
 
@@ -19,4 +16,5 @@ returns-2 : tie.Need-returns-2
 returns-2 c = omega (arith, ap length (kept-whole (dropTest (c .before .before .before .args .test)) (now (c .before .before .before .args .c)) (sym (c .before .is-dropped .ensures) ∙ c .if1 .left)))
 
 pub kept-size-spec : {M : Type 1} → statement M
-kept-size-spec = tie.close (tie.spec is-dropped-requires returns returns-2)
+kept-size-spec = tie.close
+    (tie.spec (λ c κs. search needs) returns returns-2)

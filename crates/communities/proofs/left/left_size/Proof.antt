@@ -22,35 +22,11 @@ abbrev μ-loop : tie.MeasureT-loop
 loop-holds : tie.Need-loop-holds Inv-loop μ-loop
 loop-holds c = (omega arith, omega arith, zero-add _)
 
-sub-loop : tie.Need-sub-loop Inv-loop μ-loop
-sub-loop c = search needs
-
-add-kept-size : tie.Need-add-kept-size Inv-loop μ-loop
-add-kept-size c = search needs
-
-sub-kept-size : tie.Need-sub-kept-size Inv-loop μ-loop
-sub-kept-size c = search needs
-
-part-kept-size-start : tie.Need-part-kept-size-start Inv-loop μ-loop
-part-kept-size-start c = search needs
-
-part-kept-size-end : tie.Need-part-kept-size-end Inv-loop μ-loop
-part-kept-size-end c = search needs
-
 kept-size-requires : tie.Need-kept-size-requires Inv-loop μ-loop
 kept-size-requires c κs =
     let v = now (c .before .before .before .before .args .v) in
     let i = c .before .before .loop .i in
     part-length v i 8 (omega arith)
-
-add-n : tie.Need-add-n Inv-loop μ-loop
-add-n c = search needs
-
-add-i : tie.Need-add-i Inv-loop μ-loop
-add-i c = search needs
-
-loop-less : tie.Need-loop-less Inv-loop μ-loop
-loop-less c = search needs
 
 loop-again : tie.Need-loop-again Inv-loop μ-loop
 loop-again c =
@@ -68,18 +44,5 @@ returns c =
 pub left-size-spec : {M : Type 1} → statement M
 left-size-spec =
     tie.close
-    (tie.spec
-    Inv-loop
-    μ-loop
-    loop-holds
-    sub-loop
-    add-kept-size
-    sub-kept-size
-    part-kept-size-start
-    part-kept-size-end
-    kept-size-requires
-    add-n
-    add-i
-    loop-less
-    loop-again
-    returns)
+    (tie.spec Inv-loop μ-loop loop-holds (λ c. search needs) (λ c. search needs) (λ c. search needs) (λ c. search needs) (λ c. search needs)
+    kept-size-requires (λ c. search needs) (λ c. search needs) (λ c. search needs) loop-again returns)

@@ -15,46 +15,13 @@ use Rattle.communities.proofs.left.put_kept.Tie as tie
 whole : (e : tie.Else1) → kept (dropTest (e .before .before .before .before .args .test)) (now (e .before .before .before .before .args .c)) ≡ now (e .before .before .before .before .args .c)
 whole e = kept-whole _ _ (sym (e .before .is-dropped .ensures) ∙ e .if1 .left)
 
-is-dropped-requires : tie.Need-is-dropped-requires
-is-dropped-requires c κs = search needs
-
 returns : tie.Need-returns
 returns c = stored-none _ _ (kept-none _ (now (c .before .before .before .before .args .c)) (sym (c .before .is-dropped .ensures) ∙ c .if1 .taken))
-
-shared-slice-read-t8 : tie.Need-shared-slice-read-t8
-shared-slice-read-t8 c = search needs
-
-shared-slice-read-t10 : tie.Need-shared-slice-read-t10
-shared-slice-read-t10 c = search needs
-
-shared-slice-read-t12 : tie.Need-shared-slice-read-t12
-shared-slice-read-t12 c = search needs
-
-shared-slice-read-t14 : tie.Need-shared-slice-read-t14
-shared-slice-read-t14 c = search needs
-
-shared-slice-read-t16 : tie.Need-shared-slice-read-t16
-shared-slice-read-t16 c = search needs
-
-shared-slice-read-t18 : tie.Need-shared-slice-read-t18
-shared-slice-read-t18 c = search needs
-
-shared-slice-read-t20 : tie.Need-shared-slice-read-t20
-shared-slice-read-t20 c = search needs
-
-shared-slice-read-t22 : tie.Need-shared-slice-read-t22
-shared-slice-read-t22 c = search needs
-
-slice-aggregate-put : tie.Need-slice-aggregate-put
-slice-aggregate-put c = search needs
 
 put-requires : tie.Need-put-requires
 put-requires c κs =
     let e = c .before .before .before .before .before .before .before .before .before .before in
     omega (arith, e .before .before .before .before .pre .1, ap length (whole e))
-
-same-length : tie.Need-same-length
-same-length c = search needs
 
 returns-2 : tie.Need-returns-2
 unfolding readFrom
@@ -66,18 +33,6 @@ returns-2 c =
 pub put-kept-spec : {M : Type 1} → statement M
 put-kept-spec =
     tie.close
-    (tie.spec
-    is-dropped-requires
-    returns
-    shared-slice-read-t8
-    shared-slice-read-t10
-    shared-slice-read-t12
-    shared-slice-read-t14
-    shared-slice-read-t16
-    shared-slice-read-t18
-    shared-slice-read-t20
-    shared-slice-read-t22
-    slice-aggregate-put
-    put-requires
-    same-length
+    (tie.spec (λ c κs. search needs) returns (λ c. search needs) (λ c. search needs) (λ c. search needs) (λ c. search needs)
+    (λ c. search needs) (λ c. search needs) (λ c. search needs) (λ c. search needs) (λ c. search needs) put-requires (λ c. search needs)
     returns-2)

@@ -23,21 +23,6 @@ loop-holds c =
     let s = c .before .before in
     (omega arith, writing-start (now (s .args .out)) (s .args .at) (dropFrom (dropTest (s .args .test)) (now (s .args .v))) (s .pre))
 
-sub-loop : tie.Need-sub-loop Inv-loop μ-loop
-sub-loop c = search needs
-
-add-put-kept : tie.Need-add-put-kept Inv-loop μ-loop
-add-put-kept c = search needs
-
-sub-put-kept : tie.Need-sub-put-kept Inv-loop μ-loop
-sub-put-kept c = search needs
-
-part-put-kept-start : tie.Need-part-put-kept-start Inv-loop μ-loop
-part-put-kept-start c = search needs
-
-part-put-kept-end : tie.Need-part-put-kept-end Inv-loop μ-loop
-part-put-kept-end c = search needs
-
 put-kept-requires : tie.Need-put-kept-requires Inv-loop μ-loop
 put-kept-requires c κs =
     let a = c .before .before .before .before .before .before .args in
@@ -47,12 +32,6 @@ put-kept-requires c κs =
     let n = part-length v (l .i) 8 (omega arith) in
     let left = writing-rest (l .inv .1) (left-step _ v (l .i) (c .before .before .loop-test .taken)) in
     (omega arith, writing-room (kept d (take (l .i + 8 - l .i) (drop (l .i) v))) (dropFrom d (drop (l .i + 8) v)) left)
-
-add-i : tie.Need-add-i Inv-loop μ-loop
-add-i c = search needs
-
-loop-less : tie.Need-loop-less Inv-loop μ-loop
-loop-less c = search needs
 
 loop-again : tie.Need-loop-again Inv-loop μ-loop
 loop-again c =
@@ -72,18 +51,5 @@ returns c =
 pub put-left-spec : {M : Type 1} → statement M
 put-left-spec =
     tie.close
-    (tie.spec
-    Inv-loop
-    μ-loop
-    loop-holds
-    sub-loop
-    add-put-kept
-    sub-put-kept
-    part-put-kept-start
-    part-put-kept-end
-    put-kept-requires
-    add-i
-    loop-less
-    loop-again
-    same-length
-    returns)
+    (tie.spec Inv-loop μ-loop loop-holds (λ c. search needs) (λ c. search needs) (λ c. search needs) (λ c. search needs) (λ c. search needs)
+    put-kept-requires (λ c. search needs) (λ c. search needs) loop-again same-length returns)

@@ -23,31 +23,10 @@ abbrev μ-loop : tie.MeasureT-loop
 loop-holds : tie.Need-loop-holds Inv-loop μ-loop
 loop-holds c = (omega arith, tags-start (now (c .before .args .v)))
 
-sub-loop : tie.Need-sub-loop Inv-loop μ-loop
-sub-loop c = search needs
-
-add-take-community : tie.Need-add-take-community Inv-loop μ-loop
-add-take-community c = search needs
-
-sub-take-community : tie.Need-sub-take-community Inv-loop μ-loop
-sub-take-community c = search needs
-
-part-take-community-start : tie.Need-part-take-community-start Inv-loop μ-loop
-part-take-community-start c = search needs
-
-part-take-community-end : tie.Need-part-take-community-end Inv-loop μ-loop
-part-take-community-end c = search needs
-
 take-community-requires : tie.Need-take-community-requires Inv-loop μ-loop
 take-community-requires c κs =
     let l = c .before .before in
     part-length (now (l .before .before .args .v)) (l .loop .at) 8 (omega arith)
-
-add-at : tie.Need-add-at Inv-loop μ-loop
-add-at c = search needs
-
-loop-less : tie.Need-loop-less Inv-loop μ-loop
-loop-less c = search needs
 
 loop-again : tie.Need-loop-again Inv-loop μ-loop
 loop-again c =
@@ -65,5 +44,5 @@ returns c =
 pub tag-state-spec : {M : Type 1} → statement M
 tag-state-spec =
     tie.close
-    (tie.spec Inv-loop μ-loop loop-holds sub-loop add-take-community sub-take-community part-take-community-start part-take-community-end
-    take-community-requires add-at loop-less loop-again returns)
+    (tie.spec Inv-loop μ-loop loop-holds (λ c. search needs) (λ c. search needs) (λ c. search needs) (λ c. search needs) (λ c. search needs)
+    take-community-requires (λ c. search needs) (λ c. search needs) loop-again returns)

@@ -20,17 +20,12 @@ tag-first : (c : List ℕ) → (getD c 0 0 ≡ 0x43 → ⊥) → false ≡ isTag
 unfolding isTag
 tag-first c h = rw (ne-eqb _ _ h)
 
-shared-slice-read-if1 : tie.Need-shared-slice-read-if1
-shared-slice-read-if1 c = search needs
-
 returns : tie.Need-returns
 returns c = tag-first (now (c .before .before .args .c)) (c .if1 .taken)
-
-shared-slice-read-result : tie.Need-shared-slice-read-result
-shared-slice-read-result c = search needs
 
 returns-2 : tie.Need-returns-2
 returns-2 c = tag-second (now (c .before .before .before .args .c)) (c .before .if1 .left)
 
 pub is-tag-spec : {M : Type 1} → statement M
-is-tag-spec = tie.close (tie.spec shared-slice-read-if1 returns shared-slice-read-result returns-2)
+is-tag-spec = tie.close
+    (tie.spec (λ c. search needs) returns (λ c. search needs) returns-2)

@@ -6,14 +6,8 @@ use Rattle.communities.proofs.Told.{tag-told, tag-untold}
 use Rattle.communities.proofs.tags.put_tag.Statement.{statement}
 use Rattle.communities.proofs.tags.put_tag.Tie as tie
 
-slice-aggregate-put : tie.Need-slice-aggregate-put
-slice-aggregate-put c = search needs
-
 put-requires : tie.Need-put-requires
 put-requires c κs = rw (tag-told (c .before .before .before .before .args .state) (omega arith)) at (c .before .before .before .before .pre)
-
-same-length : tie.Need-same-length
-same-length c = search needs
 
 returns : tie.Need-returns
 returns c = rw (tag-told (c .before .before .before .before .before .before .before .args .state) (omega arith)) (c .before .before .put .ensures)
@@ -22,4 +16,5 @@ returns-2 : tie.Need-returns-2
 returns-2 c = stored-none _ _ (tag-untold (c .before .before .args .state) (omega arith))
 
 pub put-tag-spec : {M : Type 1} → statement M
-put-tag-spec = tie.close (tie.spec slice-aggregate-put put-requires same-length returns returns-2)
+put-tag-spec = tie.close
+    (tie.spec (λ c. search needs) put-requires (λ c. search needs) returns returns-2)

@@ -12,21 +12,6 @@ use Rattle.policy.specs.Judge.{ruled, judged}
 use Rattle.policy.proofs.judge.receipt_rule.Statement.{statement}
 use Rattle.policy.proofs.judge.receipt_rule.Tie as tie
 
-remote-role-requires : tie.Need-remote-role-requires
-remote-role-requires c κs = search needs
-
-one-of-two-requires : tie.Need-one-of-two-requires
-one-of-two-requires c κs = search needs
-
-both-requires : tie.Need-both-requires
-both-requires c κs = search needs
-
-both-requires-2 : tie.Need-both-requires-2
-both-requires-2 c κs = search needs
-
-both-requires-3 : tie.Need-both-requires-3
-both-requires-3 c κs = search needs
-
 -- What the rules answer by the two flags.
 tested : (c : tie.After-both3) (l : List Attribute) → (let a = c .before .before .before .before .before .args in
     hasOtc l ≡ a .has → otcAs l ≡ a .otc → judged (receiptRules (a .session) l)
@@ -51,4 +36,5 @@ returns-3 c l h o = rw (tested (c .before .before) l h o, c .before .if1 .left, 
 pub receipt-rule-spec : {M : Type 1} → statement M
 receipt-rule-spec =
     tie.close
-    (tie.spec remote-role-requires one-of-two-requires both-requires both-requires-2 both-requires-3 returns returns-2 returns-3)
+    (tie.spec (λ c κs. search needs) (λ c κs. search needs) (λ c κs. search needs) (λ c κs. search needs) (λ c κs. search needs) returns
+    returns-2 returns-3)

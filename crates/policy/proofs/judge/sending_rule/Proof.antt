@@ -12,24 +12,6 @@ use Rattle.policy.specs.Judge.{ruled, judged}
 use Rattle.policy.proofs.judge.sending_rule.Statement.{statement}
 use Rattle.policy.proofs.judge.sending_rule.Tie as tie
 
-remote-role-requires : tie.Need-remote-role-requires
-remote-role-requires c κs = search needs
-
-is-up-requires : tie.Need-is-up-requires
-is-up-requires c κs = search needs
-
-from-above-requires : tie.Need-from-above-requires
-from-above-requires c κs = search needs
-
-both-requires : tie.Need-both-requires
-both-requires c κs = search needs
-
-both-requires-2 : tie.Need-both-requires-2
-both-requires-2 c κs = search needs
-
-dropped-requires : tie.Need-dropped-requires
-dropped-requires c κs = search needs
-
 -- What the rules answer by the three flags.
 tested : (c : tie.After-dropped) (l : List Attribute) → (let a = c .before .before .before .before .before .before .args in
     hasOtc l ≡ a .has → judged (sendingRules (a .session) (a .source) (a .state) l)
@@ -59,14 +41,5 @@ returns-4 c l h = rw (tested (c .before .before .before) l h, c .before .before 
 pub sending-rule-spec : {M : Type 1} → statement M
 sending-rule-spec =
     tie.close
-    (tie.spec
-    remote-role-requires
-    is-up-requires
-    from-above-requires
-    both-requires
-    both-requires-2
-    dropped-requires
-    returns
-    returns-2
-    returns-3
-    returns-4)
+    (tie.spec (λ c κs. search needs) (λ c κs. search needs) (λ c κs. search needs) (λ c κs. search needs) (λ c κs. search needs)
+    (λ c κs. search needs) returns returns-2 returns-3 returns-4)

@@ -8,9 +8,6 @@ use Rattle.policy.proofs.Judging.{state-told}
 use Rattle.policy.proofs.judge.sent_tag.Statement.{statement}
 use Rattle.policy.proofs.judge.sent_tag.Tie as tie
 
-remote-role-requires : tie.Need-remote-role-requires
-remote-role-requires c κs = search needs
-
 returns : tie.Need-returns
 unfolding tagSent remoteRole
 returns c = rw (← c .before .remote-role .ensures, eq-eqb _ _ (c .if1 .taken)) (state-told (c .before .before .args .state))
@@ -20,4 +17,5 @@ unfolding tagSent remoteRole toldTag
 returns-2 c = rw (← c .before .remote-role .ensures, ne-eqb _ _ (c .if1 .left))
 
 pub sent-tag-spec : {M : Type 1} → statement M
-sent-tag-spec = tie.close (tie.spec remote-role-requires returns returns-2)
+sent-tag-spec = tie.close
+    (tie.spec (λ c κs. search needs) returns returns-2)

@@ -17,21 +17,6 @@ returns c =
     let s = c .before .before in
     (λ d e. omega (arith, ap length (community-none d (s .args .state) (now (s .args .a)) (omega (arith, e, c .if1 .taken)))), omega arith)
 
-tag-size-requires : tie.Need-tag-size-requires
-tag-size-requires c κs = search needs
-
-add-n : tie.Need-add-n
-add-n c = search needs
-
-shared-slice-read-value-flags : tie.Need-shared-slice-read-value-flags
-shared-slice-read-value-flags c = search needs
-
-value-flags-requires : tie.Need-value-flags-requires
-value-flags-requires c κs = search needs
-
-header-size-requires : tie.Need-header-size-requires
-header-size-requires c κs = search needs
-
 add-result : tie.Need-add-result
 add-result c = omega (arith, c .header-size .ensures, length-bytes-le (c .before .value-flags .result))
 
@@ -59,12 +44,5 @@ returns-2 c =
 pub community-size-spec : {M : Type 1} → statement M
 community-size-spec =
     tie.close
-    (tie.spec
-    returns
-    tag-size-requires
-    add-n
-    shared-slice-read-value-flags
-    value-flags-requires
-    header-size-requires
-    add-result
-    returns-2)
+    (tie.spec returns (λ c κs. search needs) (λ c. search needs) (λ c. search needs) (λ c κs. search needs) (λ c κs. search needs)
+    add-result returns-2)

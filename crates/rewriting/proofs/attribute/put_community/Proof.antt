@@ -45,18 +45,6 @@ returns c =
     let s = c .before .before .before in
     stored-none _ _ (community-none (dropTest (s .args .test)) (s .args .state) (now (s .args .a)) (omega (arith, s .pre .0 .is)))
 
-tag-size-requires : tie.Need-tag-size-requires
-tag-size-requires c κs = search needs
-
-add-n : tie.Need-add-n
-add-n c = search needs
-
-shared-slice-read-put-header : tie.Need-shared-slice-read-put-header
-shared-slice-read-put-header c = search needs
-
-shared-slice-read-put-header-2 : tie.Need-shared-slice-read-put-header-2
-shared-slice-read-put-header-2 c = search needs
-
 put-header-requires : tie.Need-put-header-requires
 put-header-requires c κs =
     let t = c .before .before .before in
@@ -65,22 +53,11 @@ put-header-requires c κs =
 put-value-requires : tie.Need-put-value-requires
 put-value-requires c κs = (c .before .before .before .before .before .before .before .before .before .before .before .pre .0 .whole, writing-last-room (halfway (c .before .before .before)))
 
-same-length : tie.Need-same-length
-same-length c = search needs
-
 returns-2 : tie.Need-returns-2
 returns-2 c = writing-last (halfway (c .before .before .before .before .before .before)) (c .before .before .put-value .ensures)
 
 pub put-community-spec : {M : Type 1} → statement M
 put-community-spec =
     tie.close
-    (tie.spec
-    returns
-    tag-size-requires
-    add-n
-    shared-slice-read-put-header
-    shared-slice-read-put-header-2
-    put-header-requires
-    put-value-requires
-    same-length
-    returns-2)
+    (tie.spec returns (λ c κs. search needs) (λ c. search needs) (λ c. search needs) (λ c. search needs) put-header-requires
+    put-value-requires (λ c. search needs) returns-2)

@@ -6,29 +6,11 @@ use borrow.Author.Needs.{needs}
 use Rattle.rewriting.proofs.attribute.put_header.Statement.{statement}
 use Rattle.rewriting.proofs.attribute.put_header.Tie as tie
 
-value-flags-requires : tie.Need-value-flags-requires
-value-flags-requires c κs = search needs
-
-is-long-requires : tie.Need-is-long-requires
-is-long-requires c κs = search needs
-
-cast-t11 : tie.Need-cast-t11
-cast-t11 c = search needs
-
-cast-t13 : tie.Need-cast-t13
-cast-t13 c = search needs
-
-slice-aggregate-put : tie.Need-slice-aggregate-put
-slice-aggregate-put c = search needs
-
 put-requires : tie.Need-put-requires
 put-requires c κs =
     let t = c .before .before in
     let s = t .before .before .before .before in
     rw (header-long (s .args .flags) (s .args .kind) (s .args .n) (t .before .before .value-flags .ensures) (sym (t .before .is-long .ensures) ∙ t .if1 .taken)) at (s .pre .1)
-
-same-length : tie.Need-same-length
-same-length c = search needs
 
 returns : tie.Need-returns
 returns c =
@@ -41,17 +23,11 @@ cast-t18 c =
     let a = c .before .before .before .before .args in
     omega (arith, short-length (a .flags) (a .kind) (a .n) (c .before .before .value-flags .ensures) (sym (c .before .is-long .ensures) ∙ c .if1 .left))
 
-slice-aggregate-put-2 : tie.Need-slice-aggregate-put-2
-slice-aggregate-put-2 c = search needs
-
 put-requires-2 : tie.Need-put-requires-2
 put-requires-2 c κs =
     let t = c .before .before in
     let s = t .before .before .before .before in
     rw (header-short (s .args .flags) (s .args .kind) (s .args .n) (t .before .before .value-flags .ensures) (sym (t .before .is-long .ensures) ∙ t .if1 .left)) at (s .pre .1)
-
-same-length-2 : tie.Need-same-length-2
-same-length-2 c = search needs
 
 returns-2 : tie.Need-returns-2
 returns-2 c =
@@ -62,17 +38,5 @@ returns-2 c =
 pub put-header-spec : {M : Type 1} → statement M
 put-header-spec =
     tie.close
-    (tie.spec
-    value-flags-requires
-    is-long-requires
-    cast-t11
-    cast-t13
-    slice-aggregate-put
-    put-requires
-    same-length
-    returns
-    cast-t18
-    slice-aggregate-put-2
-    put-requires-2
-    same-length-2
-    returns-2)
+    (tie.spec (λ c κs. search needs) (λ c κs. search needs) (λ c. search needs) (λ c. search needs) (λ c. search needs) put-requires
+    (λ c. search needs) returns cast-t18 (λ c. search needs) put-requires-2 (λ c. search needs) returns-2)

@@ -25,21 +25,6 @@ halfway : (c : tie.After-put-left)
 halfway c =
     writing-step (begun (start c)) (rw (left-is (dropTest (start c .args .test)) (now (start c .args .a)) (c .before .before .before .header-size .ensures)) at (c .put-left .ensures))
 
-shared-slice-read-header-size : tie.Need-shared-slice-read-header-size
-shared-slice-read-header-size c = search needs
-
-header-size-requires : tie.Need-header-size-requires
-header-size-requires c κs = search needs
-
-sub-put-left : tie.Need-sub-put-left
-sub-put-left c = search needs
-
-part-put-left-start : tie.Need-part-put-left-start
-part-put-left-start c = search needs
-
-part-put-left-end : tie.Need-part-put-left-end
-part-put-left-end c = search needs
-
 put-left-requires : tie.Need-put-left-requires
 put-left-requires c κs =
     let s = c .before .before .before .before .before .before in
@@ -48,22 +33,11 @@ put-left-requires c κs =
 put-tag-requires : tie.Need-put-tag-requires
 put-tag-requires c κs = writing-last-room (halfway (c .before .before .before))
 
-same-length : tie.Need-same-length
-same-length c = search needs
-
 returns : tie.Need-returns
 returns c = writing-last (halfway (c .before .before .before .before .before .before)) (c .before .before .put-tag .ensures)
 
 pub put-value-spec : {M : Type 1} → statement M
 put-value-spec =
     tie.close
-    (tie.spec
-    shared-slice-read-header-size
-    header-size-requires
-    sub-put-left
-    part-put-left-start
-    part-put-left-end
-    put-left-requires
-    put-tag-requires
-    same-length
-    returns)
+    (tie.spec (λ c. search needs) (λ c κs. search needs) (λ c. search needs) (λ c. search needs) (λ c. search needs) put-left-requires
+    put-tag-requires (λ c. search needs) returns)

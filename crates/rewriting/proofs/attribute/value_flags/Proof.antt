@@ -6,9 +6,6 @@ use borrow.Author.Needs.{needs}
 use Rattle.rewriting.proofs.attribute.value_flags.Statement.{statement}
 use Rattle.rewriting.proofs.attribute.value_flags.Tie as tie
 
-is-long-requires : tie.Need-is-long-requires
-is-long-requires c κs = search needs
-
 returns : tie.Need-returns
 returns c = let a = c .before .before .args in flags-long (a .flags) (a .n) (sym (c .before .is-long .ensures) ∙ c .if1 .taken)
 
@@ -22,4 +19,5 @@ returns-3 : tie.Need-returns-3
 returns-3 c = let a = c .before .before .before .args in flags-widened (a .flags) (a .n) (sym (c .before .before .is-long .ensures) ∙ c .before .if1 .left) (omega arith)
 
 pub value-flags-spec : {M : Type 1} → statement M
-value-flags-spec = tie.close (tie.spec is-long-requires returns returns-2 add-result returns-3)
+value-flags-spec = tie.close
+    (tie.spec (λ c κs. search needs) returns returns-2 add-result returns-3)

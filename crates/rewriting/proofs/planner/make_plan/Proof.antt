@@ -13,24 +13,6 @@ use borrow.Author.Needs.{needs}
 use Rattle.rewriting.proofs.planner.make_plan.Statement.{statement}
 use Rattle.rewriting.proofs.planner.make_plan.Tie as tie
 
-attribute-size-requires : tie.Need-attribute-size-requires
-attribute-size-requires c κs = search needs
-
-value-requires : tie.Need-value-requires
-value-requires c κs = search needs
-
-left-size-requires : tie.Need-left-size-requires
-left-size-requires c κs = search needs
-
-otc-to-add-requires : tie.Need-otc-to-add-requires
-otc-to-add-requires c κs = search needs
-
-new-tag-size-requires : tie.Need-new-tag-size-requires
-new-tag-size-requires c κs = search needs
-
-new-otc-size-requires : tie.Need-new-otc-size-requires
-new-otc-size-requires c κs = search needs
-
 -- What is known once the sizes of the new attributes are found.
 abbrev start : tie.After-new-otc-size → tie.Start
 start c = c .before .before .before .before .before .before .before
@@ -43,12 +25,6 @@ turned-size-requires : tie.Need-turned-size-requires
 turned-size-requires m κs =
     let s = start m in
     plan-sizing (s .pre) (s .args .test) (s .args .flags) (s .args .state) (s .args .asn) (m .before .before .before .before .before .attribute-size .ensures) (left-found m) (m .before .before .otc-to-add .ensures)
-
-add-size : tie.Need-add-size
-add-size c = search needs
-
-add-size-2 : tie.Need-add-size-2
-add-size-2 c = search needs
 
 add-t15 : tie.Need-add-t15
 add-t15 c =
@@ -67,15 +43,5 @@ returns c =
 pub make-plan-spec : {M : Type 1} → statement M
 make-plan-spec =
     tie.close
-    (tie.spec
-    attribute-size-requires
-    value-requires
-    left-size-requires
-    otc-to-add-requires
-    new-tag-size-requires
-    new-otc-size-requires
-    turned-size-requires
-    add-size
-    add-size-2
-    add-t15
-    returns)
+    (tie.spec (λ c κs. search needs) (λ c κs. search needs) (λ c κs. search needs) (λ c κs. search needs) (λ c κs. search needs)
+    (λ c κs. search needs) turned-size-requires (λ c. search needs) (λ c. search needs) add-t15 returns)

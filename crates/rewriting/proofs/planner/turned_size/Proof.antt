@@ -20,12 +20,6 @@ returns c = (λ d e. rw (eq-eqb (c .before .before .args .k) 0 (c .if1 .taken)) 
 add-community-size : tie.Need-add-community-size
 add-community-size c = omega (arith, c .before .before .pre .within (c .if1 .left))
 
-sub-community-size : tie.Need-sub-community-size
-sub-community-size c = search needs
-
-part-community-size-start : tie.Need-part-community-size-start
-part-community-size-start c = search needs
-
 part-community-size-end : tie.Need-part-community-size-end
 part-community-size-end c = omega (arith, c .before .before .pre .within (c .if1 .left))
 
@@ -59,13 +53,5 @@ returns-2 c =
 pub turned-size-spec : {M : Type 1} → statement M
 turned-size-spec =
     tie.close
-    (tie.spec
-    returns
-    add-community-size
-    sub-community-size
-    part-community-size-start
-    part-community-size-end
-    community-size-requires
-    sub-result
-    add-result
-    returns-2)
+    (tie.spec returns add-community-size (λ c. search needs) (λ c. search needs) part-community-size-end community-size-requires sub-result
+    add-result returns-2)

@@ -20,9 +20,6 @@ returns : tie.Need-returns
 returns c =
     stored-none _ _ (new-otc-none (c .before .before .args .flags) (c .before .before .args .asn) (c .if1 .taken))
 
-slice-aggregate-put : tie.Need-slice-aggregate-put
-slice-aggregate-put c = search needs
-
 put-requires : tie.Need-put-requires
 put-requires c κs =
     let e = c .before .before in
@@ -34,9 +31,6 @@ put-number4-requires c κs =
     let p = c .before .before .before in
     writing-last-room (writing-step (begin (p .before .before .before)) (p .put .ensures))
 
-same-length : tie.Need-same-length
-same-length c = search needs
-
 returns-2 : tie.Need-returns-2
 returns-2 c =
     let q = c .before .before in
@@ -46,4 +40,4 @@ returns-2 c =
 pub put-new-otc-spec : {M : Type 1} → statement M
 put-new-otc-spec =
     tie.close
-    (tie.spec returns slice-aggregate-put put-requires put-number4-requires same-length returns-2)
+    (tie.spec returns (λ c. search needs) put-requires put-number4-requires (λ c. search needs) returns-2)

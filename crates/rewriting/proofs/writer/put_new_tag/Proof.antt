@@ -16,18 +16,12 @@ returns-2 c =
     let a = c .before .before .before .args in
     stored-none _ _ (new-tag-untold (a .flags) (a .left) (a .state) (omega (arith, c .if2 .taken)))
 
-slice-aggregate-put : tie.Need-slice-aggregate-put
-slice-aggregate-put c = search needs
-
 put-requires : tie.Need-put-requires
 put-requires c κs =
     let e = c .before .before in
     let s = e .before .before .before in
     let a = s .args in
     rw (new-tag-is (a .flags) (a .left) (a .state) (e .before .if1 .left) (omega (arith, e .if2 .left))) at (s .pre)
-
-same-length : tie.Need-same-length
-same-length c = search needs
 
 returns-3 : tie.Need-returns-3
 returns-3 c =
@@ -39,4 +33,5 @@ returns-3 c =
 
 pub put-new-tag-spec : {M : Type 1} → statement M
 put-new-tag-spec =
-    tie.close (tie.spec returns returns-2 slice-aggregate-put put-requires same-length returns-3)
+    tie.close
+    (tie.spec returns returns-2 (λ c. search needs) put-requires (λ c. search needs) returns-3)

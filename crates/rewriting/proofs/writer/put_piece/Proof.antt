@@ -41,23 +41,11 @@ past e =
     let s = e .before .before .before .before in
     clear-past (s .args .plan) (s .args .to) (s .pre .3) (e .if2 .left)
 
-sub-put : tie.Need-sub-put
-sub-put c = search needs
-
-part-put-start : tie.Need-part-put-start
-part-put-start c = search needs
-
-part-put-end : tie.Need-part-put-end
-part-put-end c = search needs
-
 put-requires : tie.Need-put-requires
 put-requires c κs =
     let t = c .before .before in
     let s = t .before .before .before in
     rw (piece-after (s .args .block .now) (s .args .plan) (s .args .from) (s .args .to) (t .if1 .taken)) at (s .pre .4)
-
-same-length : tie.Need-same-length
-same-length c = search needs
 
 returns : tie.Need-returns
 returns c =
@@ -66,24 +54,12 @@ returns c =
     let a = t .before .before .before .args in
     rw (piece-after (a .block .now) (a .plan) (a .from) (a .to) (t .if1 .taken)) (p .put .ensures)
 
-sub-put-2 : tie.Need-sub-put-2
-sub-put-2 c = search needs
-
-part-put-start-2 : tie.Need-part-put-start-2
-part-put-start-2 c = search needs
-
-part-put-end-2 : tie.Need-part-put-end-2
-part-put-end-2 c = search needs
-
 put-requires-2 : tie.Need-put-requires-2
 put-requires-2 c κs =
     let t = c .before .before in
     let s = t .before .before .before .before in
     rw (piece-before (s .args .block .now) (s .args .plan) (s .args .from) (s .args .to) (t .before .if1 .left) (t .if2 .taken))
     at (s .pre .4)
-
-same-length-2 : tie.Need-same-length-2
-same-length-2 c = search needs
 
 returns-2 : tie.Need-returns-2
 returns-2 c =
@@ -92,26 +68,11 @@ returns-2 c =
     let a = t .before .before .before .before .args in
     rw (piece-before (a .block .now) (a .plan) (a .from) (a .to) (t .before .if1 .left) (t .if2 .taken)) (p .put2 .ensures)
 
-part-put-start-3 : tie.Need-part-put-start-3
-part-put-start-3 c = search needs
-
-part-put-end-3 : tie.Need-part-put-end-3
-part-put-end-3 c = search needs
-
 put-requires-3 : tie.Need-put-requires-3
 put-requires-3 c κs =
     let e = c .before .before in
     let s = e .before .before .before .before in
     writing-room (Front s) (Item s ++ Back s) (begin e)
-
-sub-put-community : tie.Need-sub-put-community
-sub-put-community c = search needs
-
-part-put-community-start : tie.Need-part-put-community-start
-part-put-community-start c = search needs
-
-part-put-community-end : tie.Need-part-put-community-end
-part-put-community-end c = search needs
 
 -- The bytes handed over end where the attribute does; the piece may end later.
 put-community-requires : tie.Need-put-community-requires
@@ -131,17 +92,11 @@ sub-put-3 c = past (c .before .before .before .before .before .before .before .b
 part-put-start-4 : tie.Need-part-put-start-4
 part-put-start-4 c = past (c .before .before .before .before .before .before .before .before .before .before)
 
-part-put-end-4 : tie.Need-part-put-end-4
-part-put-end-4 c = search needs
-
 put-requires-4 : tie.Need-put-requires-4
 put-requires-4 c κs =
     let q = c .before .before .before .before in
     let p = q .before .before .before .before .before in
     writing-last-room (writing-step (writing-step (begin (p .before .before .before)) (p .put3 .ensures)) (q .put-community .ensures))
-
-same-length-3 : tie.Need-same-length-3
-same-length-3 c = search needs
 
 returns-3 : tie.Need-returns-3
 returns-3 c =
@@ -155,29 +110,7 @@ returns-3 c =
 pub put-piece-spec : {M : Type 1} → statement M
 put-piece-spec =
     tie.close
-    (tie.spec
-    sub-put
-    part-put-start
-    part-put-end
-    put-requires
-    same-length
-    returns
-    sub-put-2
-    part-put-start-2
-    part-put-end-2
-    put-requires-2
-    same-length-2
-    returns-2
-    part-put-start-3
-    part-put-end-3
-    put-requires-3
-    sub-put-community
-    part-put-community-start
-    part-put-community-end
-    put-community-requires
-    sub-put-3
-    part-put-start-4
-    part-put-end-4
-    put-requires-4
-    same-length-3
-    returns-3)
+    (tie.spec (λ c. search needs) (λ c. search needs) (λ c. search needs) put-requires (λ c. search needs) returns (λ c. search needs)
+    (λ c. search needs) (λ c. search needs) put-requires-2 (λ c. search needs) returns-2 (λ c. search needs) (λ c. search needs)
+    put-requires-3 (λ c. search needs) (λ c. search needs) (λ c. search needs) put-community-requires sub-put-3 part-put-start-4
+    (λ c. search needs) put-requires-4 (λ c. search needs) returns-3)

@@ -100,9 +100,6 @@ put-piece-requires-3 c κs =
     let k = s4 p .pre .0 in
     (k, k .otcPlace, le-refl _, inr (k .to), writing-last-room (after-otc p))
 
-same-length : tie.Need-same-length
-same-length c = search needs
-
 returns : tie.Need-returns
 returns c =
     let p = c .before .before in
@@ -111,11 +108,5 @@ returns c =
 pub write-spec : {M : Type 1} → statement M
 write-spec =
     tie.close
-    (tie.spec
-    put-piece-requires
-    put-new-tag-requires
-    put-piece-requires-2
-    put-new-otc-requires
-    put-piece-requires-3
-    same-length
+    (tie.spec put-piece-requires put-new-tag-requires put-piece-requires-2 put-new-otc-requires put-piece-requires-3 (λ c. search needs)
     returns)
