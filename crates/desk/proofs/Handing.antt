@@ -8,11 +8,11 @@ use Rattle.rules.specs.Bytes.{exists}
 use Rattle.rules.specs.Rows.{chop, chopUpTo}
 use Rattle.rules.specs.Origin.{vrps}
 use Rattle.desk_lines.specs.declared.state.State.{State}
-use Rattle.desk_lines.specs.declared.frames.Kept.{Kept}
+use Rattle.frames.specs.declared.kept.Kept.{Kept}
 use Rattle.text.specs.Lines.{heldMax}
 use Rattle.text.proofs.Lining.{holds-none}
-use Rattle.desk_lines.specs.Sizes.{tableMax}
-use Rattle.desk_lines.specs.Keeping.{Keeps}
+use Rattle.frames.specs.Sizes.{tableMax}
+use Rattle.frames.specs.Keeping.{Keeps}
 use Rattle.desk_lines.specs.Machine.{begun, Ready}
 
 pub ready-emptied : {s s′ : State} {table line : List ℕ} → Ready s table line → s′ .held ≡ s .held → s′ .kept ≡ s .kept → Ready s′ table line

@@ -1,6 +1,4 @@
--- Laws of frames and the table, of lines answered, and of the machine.
-pub mod Framing
-pub mod Tabling
+-- Laws of lines answered, and of the machine.
 pub mod Saying
 pub mod Feeding
 pub mod Running

@@ -10,7 +10,7 @@ use Rattle.rules.specs.Desk.{Desk, newDesk, outputLine, lineAnswer, lineNext, d
 use Rattle.text.specs.Feeding.{Runs, finished as ended, fed as cut}
 use Rattle.text.proofs.Feeding.{run-says}
 use Rattle.desk_lines.specs.declared.state.State.{State}
-use Rattle.desk_lines.specs.Keeping.{deskOf}
+use Rattle.frames.specs.Keeping.{deskOf}
 use Rattle.desk_lines.specs.Machine.{deskSays, deskNext, turnOf, begun, future, emptied, Run, finished, fed}
 
 -- The definition's fold over lines is the step's.

@@ -9,14 +9,14 @@ use lib.ListN.{length}
 use Rattle.rules.specs.Answers.{Answer, done, refused, answerNumber}
 use Rattle.rules.specs.Text.{fromHex, readableLine, toHex, dash, space, lineFeed, decimal}
 use Rattle.rules.specs.Desk.{shownResult, outputLine, frameAnswer, frameNext, lineAnswer, lineNext}
-use Rattle.desk_lines.specs.declared.reply.Reply.{Reply}
-use Rattle.desk_lines.specs.declared.reply.Reply.the-variants.{Bytes, Refused}
+use Rattle.frames.specs.declared.reply.Reply.{Reply}
+use Rattle.frames.specs.declared.reply.Reply.the-variants.{Bytes, Refused}
 use Rattle.rules.specs.declared.Refusal.the-variants.{Unreadable}
 use Rattle.octets.specs.Buffer.{Stored}
-use Rattle.desk_lines.specs.declared.frames.Kept.{Kept}
+use Rattle.frames.specs.declared.kept.Kept.{Kept}
 use Rattle.desk_lines.specs.declared.state.State.{State}
 use Rattle.desk_lines.specs.Sizes.{answerMax}
-use Rattle.desk_lines.specs.Keeping.{deskOf, Keeps, replied, Replies, isDone, wasDone}
+use Rattle.frames.specs.Keeping.{deskOf, Keeps, replied, Replies, isDone, wasDone}
 use Rattle.desk_lines.specs.Machine.{deskSays, deskNext, turnOf, shownAnswer, Answered}
 
 -- ---- A line out

@@ -1,4 +1,3 @@
--- The desk's sizes, what it keeps, how it replies, and what its byte machine promises.
+-- The desk's sizes, and what its byte machine promises.
 pub mod Sizes
-pub mod Keeping
 pub mod Machine

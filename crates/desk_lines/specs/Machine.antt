@@ -13,8 +13,9 @@ use Rattle.text.specs.Lines.{Holds}
 use Rattle.text.specs.Feeding.{Feeds}
 use Rattle.desk_lines.specs.declared.state.Progress.{Progress}
 use Rattle.desk_lines.specs.declared.state.State.{State}
-use Rattle.desk_lines.specs.Sizes.{frameMax, resultMax, answerMax}
-use Rattle.desk_lines.specs.Keeping.{deskOf, Keeps}
+use Rattle.frames.specs.Sizes.{resultMax}
+use Rattle.desk_lines.specs.Sizes.{frameMax, answerMax}
+use Rattle.frames.specs.Keeping.{deskOf, Keeps}
 
 -- ---- From line to line
 

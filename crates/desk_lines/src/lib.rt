@@ -1,13 +1,11 @@
 // The desk's byte machine: takes input in pieces of any size, answers each line once it has ended, and carries a line that has
 // not over to the next piece (01, "The desk program"). All that it needs is lent: `line` for the line that has begun, `raw` for a
 // frame, `made` for a result, `table` for VRPs, and `out`, whose caller writes it out when it is full.
-pub mod frames;
 pub mod lines;
-pub mod reply;
 pub mod sizes;
 pub mod state;
 
-use frames::Kept;
+use frames::kept::Kept;
 use lines::answer_line;
 use rules::Session;
 use sizes::ANSWER_MAX;

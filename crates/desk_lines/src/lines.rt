@@ -1,8 +1,8 @@
 // One line: read, answered, and the line that goes out (01, "The desk program").
-use super::frames::answer_frame;
-use super::frames::keep_frame;
-use super::reply::Reply;
 use super::state::State;
+use frames::answer_frame;
+use frames::keep_frame;
+use frames::reply::Reply;
 use octets::buffer::put;
 use octets::buffer::put_byte;
 use rules::Refusal;
@@ -16,8 +16,9 @@ ghost use lib.ListN.{length};
 ghost use Rattle.rules.specs.Answers.{done};
 ghost use Rattle.rules.specs.Desk.{shownResult, outputLine};
 ghost use Rattle.octets.specs.Buffer.{Stored};
-ghost use Rattle.desk_lines.specs.Sizes.{resultMax, answerMax};
-ghost use Rattle.desk_lines.specs.Keeping.{Keeps, replied, Within, isDone};
+ghost use Rattle.frames.specs.Sizes.{resultMax};
+ghost use Rattle.desk_lines.specs.Sizes.{answerMax};
+ghost use Rattle.frames.specs.Keeping.{Keeps, replied, Within, isDone};
 ghost use Rattle.desk_lines.specs.Machine.{Lent, Answered, shownAnswer};
 
 // Stores a result of answer 0, in hex, or a dash where there is no byte to show. Internal.

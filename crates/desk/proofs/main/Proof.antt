@@ -8,7 +8,8 @@ use native.Mathlib.Nat.{min-le-right}
 use lib.ListN.{length, length-take, length-replicate}
 use lib.Seq.{length-take-le}
 use Rattle.text.specs.Lines.{heldMax}
-use Rattle.desk_lines.specs.Sizes.{frameMax, resultMax, tableMax, answerMax}
+use Rattle.frames.specs.Sizes.{resultMax, tableMax}
+use Rattle.desk_lines.specs.Sizes.{frameMax, answerMax}
 use Rattle.desk_lines.specs.Machine.{begun, Ready, Lent}
 use Rattle.desk.proofs.Handing.{ready-begun}
 use Rattle.desk.proofs.main.Statement.{statement}

@@ -1,9 +1,8 @@
-// Frames: the bytes of a readable line, answered by their first byte (01, "The desk program"). Each function stores its result at
-// the start of `made`, which its caller lends, and answers how many bytes that is, or a refusal.
+// Frames of each kind, answered (01, "The desk program"). Each function stores its result at the start of `made`, which its caller
+// lends, and answers how many bytes that is, or a refusal. All of it is internal: `answer_frame` calls it.
 use super::reply::Reply;
 use super::sizes::TABLE_MAX;
 use attributes::value;
-use octets::buffer::put;
 use octets::number4;
 use opening::open_session;
 use origin::path_state;
@@ -21,39 +20,22 @@ use vrps::vrp::IPV4;
 use vrps::vrp::VRP_SIZE;
 use vrps::vrp::bad_vrp;
 ghost use mathlib.Core.Path.{_≡_};
-ghost use mathlib.Core.Bool.{true};
 ghost use Prim.Native.Nat.{_≤_};
 ghost use lib.ListN.{length, take};
 ghost use Rattle.rules.specs.Origin.{ipv4, vrps};
-ghost use Rattle.rules.specs.Desk.{sessionIn, sessionFrame, receiptFrame, sendingFrame, vrpFrame, frameAnswer, frameNext};
+ghost use Rattle.rules.specs.Desk.{sessionIn, sessionFrame, receiptFrame, sendingFrame, vrpFrame};
 ghost use Rattle.vrps.specs.Scan.{GoodTable};
-ghost use Rattle.desk_lines.specs.Sizes.{resultMax};
-ghost use Rattle.desk_lines.specs.Keeping.{deskOf, Keeps, Replies, Agrees, keptSession};
+ghost use Rattle.frames.specs.Sizes.{resultMax};
+ghost use Rattle.frames.specs.Keeping.{Keeps, Replies};
 
-// The kinds of frames, by their first byte, and the least bytes of each; a VRP frame has just so many.
-const SESSION: u8 = 1;
-
-const RECEIPT: u8 = 2;
-
-const SENDING: u8 = 3;
-
-const VRP: u8 = 4;
-
+// The least bytes of a frame of each kind; a VRP frame has just so many.
 const SESSION_MIN: usize = 12;
 
 const RECEIPT_MIN: usize = 6;
 
 const SENDING_MIN: usize = 3;
 
-const VRP_FRAME: usize = 1 + VRP_SIZE;
-
-// What the desk keeps from line to line, beside its table: how many bytes of that hold VRPs, whether a session is in force, and
-// the session.
-pub struct Kept {
-    pub used: usize,
-    pub live: bool,
-    pub session: Session,
-}
+pub const VRP_FRAME: usize = 1 + VRP_SIZE;
 
 // 01: local AS 4, remote AS 4, local role, strict, mode. Internal.
 pub fn session_in(frame: &[u8]) -> Session
@@ -69,7 +51,7 @@ pub fn session_in(frame: &[u8]) -> Session
 }
 
 // 01, session, with the OPEN's parameters after the settings; its result is the remote role. Internal.
-fn session_frame(frame: &[u8], made: &mut [u8]) -> Reply
+pub fn session_frame(frame: &[u8], made: &mut [u8]) -> Reply
     requires { ⌜ length (now made) ≡ resultMax ⌝ }
     ensures { λ r. ⌜ Replies (sessionFrame (now (frame .entry))) (now (made .exit)) r ⌝ }
 {
@@ -92,7 +74,7 @@ fn session_frame(frame: &[u8], made: &mut [u8]) -> Reply
 }
 
 // 02, receipt: prefix length, prefix 4, block; its result is the state, found after the verdict, and the block. Internal.
-fn receipt_frame(session: Session, table: &[u8], frame: &[u8], made: &mut [u8]) -> Reply
+pub fn receipt_frame(session: Session, table: &[u8], frame: &[u8], made: &mut [u8]) -> Reply
     requires { ⌜ (GoodTable ipv4 (now table)) × (length (now made) ≡ resultMax) ⌝ }
     ensures { λ r. ⌜ Replies (receiptFrame session (vrps ipv4 (now (table .entry))) (now (frame .entry))) (now (made .exit)) r ⌝ }
 {
@@ -119,7 +101,7 @@ fn receipt_frame(session: Session, table: &[u8], frame: &[u8], made: &mut [u8]) 
 }
 
 // 03, sending: source, state, block; its result is the block. Internal.
-fn sending_frame(session: Session, frame: &[u8], made: &mut [u8]) -> Reply
+pub fn sending_frame(session: Session, frame: &[u8], made: &mut [u8]) -> Reply
     requires { ⌜ length (now made) ≡ resultMax ⌝ }
     ensures { λ r. ⌜ Replies (sendingFrame session (now (frame .entry))) (now (made .exit)) r ⌝ }
 {
@@ -140,7 +122,7 @@ fn sending_frame(session: Session, frame: &[u8], made: &mut [u8]) -> Reply
 }
 
 // 04, one VRP, where `used` bytes of the table hold those taken before; it has no result to show. Internal.
-fn vrp_frame(used: usize, table: &[u8], frame: &[u8], made: &[u8]) -> Reply
+pub fn vrp_frame(used: usize, table: &[u8], frame: &[u8], made: &[u8]) -> Reply
     requires { ⌜ Keeps used (now table) ⌝ }
     ensures { λ r. ⌜ Replies (vrpFrame (vrps ipv4 (take used (now (table .entry)))) (now (frame .entry))) (now (made .entry)) r ⌝ }
 {
@@ -157,76 +139,4 @@ fn vrp_frame(used: usize, table: &[u8], frame: &[u8], made: &[u8]) -> Reply
         return Reply::Refused(Refusal::BadVrp(0));
     }
     Reply::Bytes(0)
-}
-
-// A frame of any kind. Internal.
-pub fn answer_frame(kept: Kept, table: &[u8], frame: &[u8], made: &mut [u8]) -> Reply
-    requires { ⌜ (1 ≤ length (now frame)) × (Keeps (kept .used) (now table)) × (length (now made) ≡ resultMax) ⌝ }
-    ensures { λ r. ⌜ Replies (frameAnswer (deskOf kept (now (table .entry))) (now (frame .entry))) (now (made .exit)) r ⌝ }
-{
-    let kind = frame[0];
-    if kind == SESSION {
-        return session_frame(frame, made);
-    }
-    let used = kept.used;
-    if kind == VRP {
-        return vrp_frame(used, table, frame, made);
-    }
-    if !kept.live {
-        return Reply::Refused(Refusal::Unreadable);
-    }
-    let session = kept.session;
-    if kind == RECEIPT {
-        return receipt_frame(session, &table[..used], frame, made);
-    }
-    if kind == SENDING {
-        return sending_frame(session, frame, made);
-    }
-    Reply::Refused(Refusal::Unreadable)
-}
-
-// What is kept after a session frame that was answered 0, or not. Internal.
-fn keep_session(kept: Kept, frame: &[u8], taken: bool) -> Kept
-    requires { ⌜ (taken ≡ true → 12 ≤ length (now frame)) ⌝ }
-    ensures { λ r. ⌜ r ≡ keptSession kept (now (frame .entry)) taken ⌝ }
-{
-    let used = kept.used;
-    if taken {
-        let session = session_in(frame);
-        return Kept {
-            used,
-            live: true,
-            session,
-        };
-    }
-    let session = kept.session;
-    Kept {
-        used,
-        live: false,
-        session,
-    }
-}
-
-// What is kept after a frame that was answered 0, or not. Internal.
-pub fn keep_frame(kept: Kept, frame: &[u8], taken: bool, table: &mut [u8]) -> Kept
-    requires { ⌜ (1 ≤ length (now frame)) × (Keeps (kept .used) (now table)) × (Agrees (deskOf kept (now table)) (now frame) taken) ⌝ }
-    ensures { λ r. ⌜ (deskOf r (now (table .exit)) ≡ frameNext (deskOf kept (now (table .entry))) (now (frame .entry)) (frameAnswer (deskOf kept (now (table .entry))) (now (frame .entry)))) × (Keeps (r .used) (now (table .exit))) ⌝ }
-{
-    let kind = frame[0];
-    if kind == SESSION {
-        return keep_session(kept, frame, taken);
-    }
-    if kind != VRP {
-        return kept;
-    }
-    if !taken {
-        return kept;
-    }
-    let used = put(&frame[1..VRP_FRAME], table, kept.used);
-    let session = kept.session;
-    Kept {
-        used,
-        live: kept.live,
-        session,
-    }
 }

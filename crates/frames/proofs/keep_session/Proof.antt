@@ -1,8 +1,8 @@
 -- `keep_session` meets its contract.
 use mathlib.Core.Path.{refl}
-use Rattle.desk_lines.specs.Keeping.{keptSession}
-use Rattle.desk_lines.proofs.frames.keep_session.Statement.{statement}
-use Rattle.desk_lines.proofs.frames.keep_session.Tie as tie
+use Rattle.frames.specs.Keeping.{keptSession}
+use Rattle.frames.proofs.keep_session.Statement.{statement}
+use Rattle.frames.proofs.keep_session.Tie as tie
 
 session-in-requires : tie.Need-session-in-requires
 session-in-requires c κs =

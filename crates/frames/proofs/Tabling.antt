@@ -15,16 +15,16 @@ use Rattle.rules.specs.Settings.{vrpsMax}
 use Rattle.rules.specs.Origin.{ipv4, Vrp, vrp, vrpSize, vrps, badVrp}
 use Rattle.rules.specs.Desk.{Desk, sessionFrame, receiptFrame, sendingFrame, vrpIn, vrpFrame, inSession, frameAnswer, frameNext}
 use Rattle.rules.specs.declared.Refusal.the-variants.{BadLength, BadVrp, Unreadable}
-use Rattle.desk_lines.specs.declared.reply.Reply.{Reply}
-use Rattle.desk_lines.specs.declared.reply.Reply.the-variants.{Bytes, Refused}
+use Rattle.frames.specs.declared.reply.Reply.{Reply}
+use Rattle.frames.specs.declared.reply.Reply.the-variants.{Bytes, Refused}
 use Rattle.rules.proofs.Fixed.{whole-count, items-more}
 use Rattle.rules.proofs.Lists.{exists-append}
 use Rattle.octets.specs.Buffer.{splice, Stored}
 use Rattle.octets.proofs.Splices.{splice-length}
-use Rattle.desk_lines.specs.Sizes.{tableMax}
-use Rattle.desk_lines.specs.Keeping.{deskOf, Keeps, replied, Replies, wasDone, keptSession}
-use Rattle.desk_lines.specs.declared.frames.Kept.{Kept}
-use Rattle.desk_lines.proofs.Framing.{replies-refused}
+use Rattle.frames.specs.Sizes.{tableMax}
+use Rattle.frames.specs.Keeping.{deskOf, Keeps, replied, Replies, wasDone, keptSession}
+use Rattle.frames.specs.declared.kept.Kept.{Kept}
+use Rattle.frames.proofs.Framing.{replies-refused}
 
 -- ---- A VRP frame
 

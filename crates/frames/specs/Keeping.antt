@@ -7,12 +7,12 @@ use mathlib.Core.Option.{none, some}
 use lib.ListN.{length, take}
 use Rattle.rules.specs.Answers.{Answer, done, refused}
 use Rattle.rules.specs.Origin.{ipv4, vrps}
-use Rattle.rules.specs.Desk.{Desk, sessionIn, frameAnswer}
-use Rattle.desk_lines.specs.declared.reply.Reply.{Reply}
-use Rattle.desk_lines.specs.declared.reply.Reply.the-variants.{Bytes, Refused}
+use Rattle.rules.specs.Desk.{Desk, sessionIn, frameAnswer, frameNext}
+use Rattle.frames.specs.declared.reply.Reply.{Reply}
+use Rattle.frames.specs.declared.reply.Reply.the-variants.{Bytes, Refused}
 use Rattle.vrps.specs.Scan.{GoodTable}
-use Rattle.desk_lines.specs.declared.frames.Kept.{Kept}
-use Rattle.desk_lines.specs.Sizes.{resultMax, tableMax}
+use Rattle.frames.specs.declared.kept.Kept.{Kept}
+use Rattle.frames.specs.Sizes.{resultMax, tableMax}
 
 -- The session in force, and the VRPs of the table's first `used` bytes.
 unfoldable pub deskOf : Kept → List ℕ → Desk
@@ -54,3 +54,8 @@ Agrees d f taken = wasDone (frameAnswer d f) ≡ taken
 -- What is kept after a session frame: its session, if it was taken, else none.
 unfoldable pub keptSession : Kept → List ℕ → Bool → Kept
 keptSession k f taken = record { used = k .used; live = taken; session = cond taken (sessionIn f) (k .session) }
+
+-- What is kept after a frame is what the definition says, and the table stays good.
+pub record KeptNext (k : Kept) (table f : List ℕ) (k′ : Kept) (table′ : List ℕ) : Type 0 where
+  pub is : deskOf k′ table′ ≡ frameNext (deskOf k table) f (frameAnswer (deskOf k table) f)
+  pub keeps : Keeps (k′ .used) table′

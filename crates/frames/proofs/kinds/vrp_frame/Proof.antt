@@ -1,9 +1,9 @@
 -- `vrp_frame` meets its contract.
 use denote.Ref.{now}
-use Rattle.desk_lines.proofs.Tabling.{vrp-short, vrp-long, vrp-full, vrp-bad, vrp-taken}
+use Rattle.frames.proofs.Tabling.{vrp-short, vrp-long, vrp-full, vrp-bad, vrp-taken}
 use borrow.Author.Needs.{needs}
-use Rattle.desk_lines.proofs.frames.vrp_frame.Statement.{statement}
-use Rattle.desk_lines.proofs.frames.vrp_frame.Tie as tie
+use Rattle.frames.proofs.kinds.vrp_frame.Statement.{statement}
+use Rattle.frames.proofs.kinds.vrp_frame.Tie as tie
 
 returns : tie.Need-returns
 returns c =
@@ -23,18 +23,6 @@ returns-3 c =
     let a = o .args in
     vrp-full (o .pre) (now (a .frame)) (now (a .made)) (c .before .before .if1 .left) (c .before .if2 .left) (c .if3 .taken)
 
-sub-bad-vrp : tie.Need-sub-bad-vrp
-sub-bad-vrp c = search needs
-
-part-bad-vrp-start : tie.Need-part-bad-vrp-start
-part-bad-vrp-start c = search needs
-
-part-bad-vrp-end : tie.Need-part-bad-vrp-end
-part-bad-vrp-end c = search needs
-
-bad-vrp-requires : tie.Need-bad-vrp-requires
-bad-vrp-requires c κs = search needs
-
 returns-4 : tie.Need-returns-4
 returns-4 c =
     let o = c .before .before .before .before .before .before .before .before .before in
@@ -50,13 +38,5 @@ returns-5 c =
 pub vrp-frame-spec : {M : Type 1} → statement M
 vrp-frame-spec =
     tie.close
-    (tie.spec
-    returns
-    returns-2
-    returns-3
-    sub-bad-vrp
-    part-bad-vrp-start
-    part-bad-vrp-end
-    bad-vrp-requires
-    returns-4
+    (tie.spec returns returns-2 returns-3 (λ c. search needs) (λ c. search needs) (λ c. search needs) (λ c κs. search needs) returns-4
     returns-5)

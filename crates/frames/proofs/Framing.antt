@@ -21,13 +21,13 @@ use Rattle.rules.specs.Desk.{sessionIn, sessionFrame, receiptFrame, sendingFram
 use Rattle.rules.specs.declared.Refusal.{Refusal}
 use Rattle.rules.specs.declared.Refusal.the-variants.{BadSetting, NoRoom, Unreadable}
 use Rattle.rules.specs.declared.Session.{Session}
-use Rattle.desk_lines.specs.declared.reply.Reply.the-variants.{Bytes, Refused}
+use Rattle.frames.specs.declared.reply.Reply.the-variants.{Bytes, Refused}
 use Rattle.rules.proofs.Answers.{Passed, earlier, here, past, answer-decided, answer-refused, order-whole}
 use Rattle.rules.proofs.Buffers.{fitted-fits, leaves-alone}
 use Rattle.attributes.specs.Layout.{layout, valueAt}
 use Rattle.attributes.proofs.Found.{value-of}
-use Rattle.desk_lines.specs.Sizes.{resultMax}
-use Rattle.desk_lines.specs.Keeping.{replied, Replies}
+use Rattle.frames.specs.Sizes.{resultMax}
+use Rattle.frames.specs.Keeping.{replied, Replies}
 
 pub replies-refused : {a : Answer (List ℕ)} (made : List ℕ) {r : Refusal} → a ≡ refused r → Replies a made (Refused r)
 unfolding replied
