@@ -2,8 +2,7 @@
 use Prim.Native.Nat.{ℕ, _+_, _-_, _≤_, _<_}
 use mathlib.Core.Path.{_≡_, refl, sym, ap, _∙_}
 use mathlib.Core.Bool.{Bool, true, false, not, _||_}
-use mathlib.Core.List.{List, [], map, _∷_}
-use native.Mathlib.Omega.{arith}
+use mathlib.Core.List.{List}
 use borrow.Author.Tests.{lt-ltb, le-ltb}
 use lib.Dec.{ltb}
 use lib.ListN.{length, take, drop, getD}
@@ -11,15 +10,22 @@ use Rattle.rules.specs.Bytes.{part}
 use Rattle.rules.specs.Settings.{blockMax, stateOk}
 use Rattle.rules.specs.Attributes.{attributes, valueOf, hasOtc, segments, originType, asPathType, otcType}
 use Rattle.rules.specs.declared.Offer.{Offer}
-use Rattle.rules.specs.Choice.{Candidate, offerSize, offer, offers, candidate, badCandidate, badOffer, pathLength}
+use Rattle.rules.specs.Choice.{Candidate, candidate, badCandidate, badOffer, pathLength}
 use Rattle.octets.proofs.Slices.{part-is}
 use Rattle.attributes.specs.Layout.{layout, reading, valueAt}
 use Rattle.attributes.specs.declared.layout.Layout.{Layout}
 use Rattle.attributes.specs.declared.layout.Reading.{Reading}
 use Rattle.attributes.specs.declared.layout.Reading.the-variants.{Clean, Fault}
 use Rattle.attributes.proofs.Found.{value-of, has-of, fault-read, clean-read}
-use Rattle.attributes.proofs.Positions.{items-next, items-end}
 use Rattle.choice.specs.Keys.{Reads, keysIn}
+
+-- The test of a size and a state, in the code's order.
+module _ (size state : ℕ) where
+  pub range-over : blockMax < size → true ≡ (ltb blockMax size || not (stateOk state))
+  range-over h = rw (lt-ltb blockMax size h) refl
+
+  pub range-state : size ≤ blockMax → {x : Bool} → x ≡ stateOk state → not x ≡ (ltb blockMax size || not (stateOk state))
+  range-state h e = rw (le-ltb blockMax size h) (ap not e)
 
 -- By its size and state, x is whether they are out of range; and then by the reader's answer r.
 module _ (c : Candidate) {x : Bool} (e : x ≡ (ltb blockMax (length (c .block)) || not (stateOk (c .state)))) where
@@ -76,13 +82,3 @@ module _ (buffer : List ℕ) (o : Offer) where
   pub offer-inside : o .start + o .size ≤ length buffer → {x : Bool} → badCandidate lent ≡ x → badOffer buffer o ≡ x
   unfolding badOffer
   offer-inside h e = rw (le-ltb (length buffer) (o .start + o .size) h, ← lent-is) e
-
--- The candidates of a table from a position on.
-module _ (s : List ℕ) (at : ℕ) where
-  pub offers-next : offerSize ≤ length s - at → offers (drop at s) ≡ offer (take (at + offerSize - at) (drop at s)) ∷ offers (drop (at + offerSize) s)
-  unfolding offers
-  offers-next h = ap (map offer) (items-next offerSize s at (omega arith) h)
-
-  pub offers-end : length s - at < offerSize → offers (drop at s) ≡ []
-  unfolding offers
-  offers-end h = ap (map offer) (items-end offerSize s at h)

@@ -7,23 +7,23 @@ use native.Mathlib.Omega.{arith}
 use borrow.Author.Tests.{lt-ltb, le-ltb}
 use lib.Dec.{ltb}
 use lib.ListN.{length, take, drop}
-use Rattle.rules.specs.Bytes.{isEmpty, oneOf, exists, firstIndex}
+use Rattle.rules.specs.Bytes.{oneOf, exists}
 use Rattle.rules.specs.Rows.{chop, whole, by}
-use Rattle.rules.specs.Answers.{Answer, done, refused, Check, order, number}
+use Rattle.rules.specs.Answers.{done, refused, order, number}
 use Rattle.rules.specs.Settings.{candidatesMax, modeOk, modeMeant}
-use Rattle.rules.specs.Choice.{Candidate, Choice, offerSize, offer, offers, candidate, badCandidate, badOffer, numberedFrom, leftOf, chosenFrom, keys, before, chooseChecks, chooseIn, better}
+use Rattle.rules.specs.Choice.{Candidate, offerSize, offer, offers, candidate, badCandidate, badOffer, numberedFrom, leftOf, keys, before, chooseChecks, chooseIn, better}
 use Rattle.rules.specs.declared.Offer.{Offer}
-use Rattle.rules.specs.declared.Refusal.{Refusal}
 use Rattle.rules.specs.declared.Refusal.the-variants.{BadSetting, BadLength, BadCandidate, NoRoute}
-use Rattle.rules.proofs.Answers.{Decides, here, past, earlier, answer-decided, answer-passed}
+use Rattle.rules.proofs.Answers.{here, past, earlier, answer-decided, answer-passed}
 use Rattle.rules.proofs.Lists.{Past, past-start, past-next, past-found, past-end}
 use Rattle.rules.proofs.Fixed.{whole-mod, not-whole-mod, whole-count}
+use Rattle.attributes.proofs.Positions.{items-next, items-end}
 use Rattle.choice.specs.declared.best.Best.{Best}
 use Rattle.choice.specs.declared.best.Best.the-variants.{Nothing, Route}
 use Rattle.choice.specs.declared.best.BestRoute.{BestRoute}
 use Rattle.choice.specs.Keys.{keysIn, keysOf, listed}
 use Rattle.choice.specs.Bests.{leftIn, taken}
-use Rattle.choice.proofs.Candidates.{lent, lent-is, offers-next, offers-end}
+use Rattle.choice.proofs.Candidates.{lent, lent-is}
 use Rattle.choice.proofs.Taking.{takenAll, taken-on, taken-left, taken-none, taken-some}
 
 -- The first `index` candidates of a table s are met: none is bad, at most as many are left, and the best of them with those after
@@ -42,9 +42,10 @@ met-start client buffer s meant = record { few = omega arith; past = past-start 
 module _ {client : ℕ} {buffer s : List ℕ} {meant : ℕ} {best : Best} {index : ℕ} (w : Met client buffer s meant best index)
     (i : index < length s / offerSize) {o : Offer} (q : o ≡ offer (take (offerSize * index + offerSize - offerSize * index) (drop (offerSize * index) s))) where
   table-next : offers (drop (offerSize * index) s) ≡ o ∷ offers (drop (offerSize * (index + 1)) s)
+  unfolding offers
   table-next =
       let n : offerSize * (index + 1) ≡ offerSize * index + offerSize = omega arith in
-      rw (q, n) (offers-next s (offerSize * index) (omega arith))
+      rw (q, n) (ap (map offer) (items-next offerSize s (offerSize * index) (omega arith) (omega arith)))
 
   pub met-next : badOffer buffer o ≡ false → {b : Best} → b ≡ taken meant client best index (lent buffer o) → Met client buffer s meant b (index + 1)
   met-next e {b} d =
@@ -102,7 +103,8 @@ module _ (mode client : ℕ) (buffer s : List ℕ) where
         -- At the end of the table.
         module _ (i : length s / offerSize ≤ index) (z : meant ≡ modeMeant mode) where
           end : offers (drop (offerSize * index) s) ≡ []
-          end = offers-end s (offerSize * index) (omega arith)
+          unfolding offers
+          end = ap (map offer) (items-end offerSize s (offerSize * index) (omega arith))
 
           sound : exists (badOffer buffer) (offers s) ≡ false
           sound = past-end (rw end at (w .past)) .0

@@ -1,7 +1,7 @@
 -- The order of routes by their keys, and their classes, each as the code tests it.
 use Prim.Native.Nat.{ℕ, zero, suc, _≤_}
 use mathlib.Core.Path.{_≡_, refl, sym, _∙_}
-use mathlib.Core.Bool.{Bool, true, false, cond, _&&_, _||_, or-false}
+use mathlib.Core.Bool.{Bool, true, false, cond, and-false, or-false}
 use mathlib.Core.List.{List, [], _∷_}
 use native.Mathlib.Omega.{arith}
 use native.Mathlib.Nat.{le-refl}
@@ -24,12 +24,7 @@ module _ (x y : ℕ) (xs ys : List ℕ) where
 
 pub before-last : (x y : ℕ) → ltb x y ≡ before (x ∷ []) (y ∷ [])
 unfolding before
-before-last x y = go (ltb x y) (eqb x y)
-  where
-    go : (a b : Bool) → a ≡ a || (b && false)
-    go true b = refl
-    go false true = refl
-    go false false = refl
+before-last x y = sym (rw (and-false (eqb x y)) (or-false (ltb x y)))
 
 -- Classes: one for all, or those of the states, of which the last is that of every other state.
 module _ (mode state : ℕ) where

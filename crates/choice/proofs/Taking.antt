@@ -2,7 +2,7 @@
 use Prim.Native.Nat.{ℕ, suc, _+_, _≤_, min}
 use mathlib.Core.Path.{_≡_, refl, sym, ap, _∙_}
 use mathlib.Core.Bool.{Bool, true, false, not, cond, _&&_, _||_}
-use mathlib.Core.List.{List, [], _∷_, _++_, map, foldl, append-nil, append-assoc}
+use mathlib.Core.List.{List, [], _∷_, map, foldl}
 use native.Mathlib.Omega.{arith}
 use lib.Dec.{ltb, eqb}
 use lib.ListN.{length, getD}
@@ -10,7 +10,6 @@ use Rattle.rules.specs.Bytes.{isEmpty, keep}
 use Rattle.rules.specs.Settings.{prioritise, dropInvalid, invalid}
 use Rattle.rules.specs.Attributes.{attributes, hasOtc}
 use Rattle.rules.specs.Choice.{Candidate, Numbered, numberedFrom, withoutOtc, notFrom, notInvalid, class, bestClass, remaining, before, chosenFrom}
-use Rattle.rules.proofs.Lists.{keep-append}
 use Rattle.attributes.specs.declared.layout.Layout.{Layout}
 use Rattle.choice.specs.declared.keys.Keys.{Keys}
 use Rattle.choice.specs.declared.best.Best.{Best}
@@ -20,7 +19,12 @@ use Rattle.choice.specs.Keys.{Reads, keysOf, listed}
 use Rattle.choice.specs.Bests.{isRemoved, rank, with, met, meets, leftIn, taken}
 use Rattle.choice.proofs.Candidates.{otc-found}
 use Rattle.choice.proofs.Ordering.{rank-top}
-use Rattle.choice.proofs.Picking.{least, bestBy, summaryOf, summary-none, summary-some, summary, summary-met}
+use Rattle.choice.proofs.Picking.{bestOf, low, ofClass, metAll, best-none, best-some, met-all}
+
+-- A bound of each of two holds of the one that a test picks.
+either : {A : Type 0} (f : A → ℕ) (x : Bool) {a b : A} {n : ℕ} → f a ≤ n → f b ≤ n → f (cond x a b) ≤ n
+either f true p q = p
+either f false p q = q
 
 module _ (mode client : ℕ) where
   -- One candidate, which the code removes, or meets with its class and keys.
@@ -58,15 +62,12 @@ module _ (mode client : ℕ) where
   kept-is (x ∷ l) =
       go (hasOtc (attributes (x .candidate .block))) (eqb (x .candidate .address) client) (eqb mode dropInvalid) (eqb (x .candidate .state) invalid) refl refl (kept-is l)
     where
-      others : List Numbered → List Numbered
-      others m = keep (λ r. not (eqb (r .candidate .address) client)) m
-
       valids : List Numbered → List Numbered
       valids m = keep (λ r. not (eqb (r .candidate .state) invalid)) m
 
       go : (otc own drops bad : Bool) → eqb (x .candidate .address) client ≡ own → eqb (x .candidate .state) invalid ≡ bad
-          → cond drops (valids (others (withoutOtc l))) (others (withoutOtc l)) ≡ keep stays l
-          → cond drops (valids (others (cond (not otc) (x ∷ withoutOtc l) (withoutOtc l)))) (others (cond (not otc) (x ∷ withoutOtc l) (withoutOtc l)))
+          → cond drops (valids (notFrom client (withoutOtc l))) (notFrom client (withoutOtc l)) ≡ keep stays l
+          → cond drops (valids (notFrom client (cond (not otc) (x ∷ withoutOtc l) (withoutOtc l)))) (notFrom client (cond (not otc) (x ∷ withoutOtc l) (withoutOtc l)))
           ≡ cond (not (otc || own || (drops && bad))) (x ∷ keep stays l) (keep stays l)
       go true own drops bad f e ih = ih
       go false true drops bad f e ih = rw f ih
@@ -92,8 +93,8 @@ module _ (mode client : ℕ) where
   all-same [] = refl
   all-same (x ∷ l) = ap (λ (m : List Numbered). x ∷ m) (all-same l)
 
-  best-left : (l : List Numbered) → bestBy classOf l ≡ bestClass mode l
-  unfolding bestBy least bestClass classOf rank class
+  best-left : (l : List Numbered) → ofClass classOf (low classOf 2 l) l ≡ bestClass mode l
+  unfolding ofClass low bestClass classOf rank class
   best-left l = go (eqb mode prioritise) l
     where
       go : (b : Bool) (l : List Numbered)
@@ -114,58 +115,38 @@ module _ (mode client : ℕ) where
   unfolding takenAll numberedFrom
   taken-on s i c cs {j} e = let n : j ≡ suc i = omega arith in rw n refl
 
-  taken-more : (l : List Numbered) (x : Numbered)
-      → taken mode client (summary classOf top (keep stays l)) (x .index) (x .candidate) ≡ summary classOf top (keep stays (l ++ (x ∷ [])))
-  unfolding taken keep stays classOf
-  taken-more l x =
-      rw (keep-append stays l (x ∷ []))
-      (go (isRemoved mode client (hasOtc (attributes (x .candidate .block))) (x .candidate .state) (x .candidate .address)))
+  taken-kept : (l : List Numbered) (s : Best) → takenAll s l ≡ metAll classOf s (keep stays l)
+  unfolding takenAll metAll taken keep stays classOf
+  taken-kept [] s = refl
+  taken-kept (x ∷ l) s =
+      go (isRemoved mode client (hasOtc (attributes (x .candidate .block))) (x .candidate .state) (x .candidate .address)) (taken-kept l)
     where
-      go : (b : Bool)
-          → cond b (summary classOf top (keep stays l)) (meets (summary classOf top (keep stays l)) (classOf x) (x .index) (keysOf (x .candidate)))
-          ≡ summary classOf top (keep stays l ++ cond (not b) (x ∷ []) [])
-      go true = rw (append-nil (keep stays l)) refl
-      go false = summary-met classOf top (keep stays l) x
-
-  taken-kept : (l m : List Numbered) → takenAll (summary classOf top (keep stays l)) m ≡ summary classOf top (keep stays (l ++ m))
-  unfolding takenAll
-  taken-kept l [] = rw (append-nil l) refl
-  taken-kept l (x ∷ m) = rw (taken-more l x) (taken-kept (l ++ (x ∷ [])) m ∙ rw (append-assoc l (x ∷ []) m) refl)
-
-  summary-nil : summary classOf top (keep stays []) ≡ Nothing
-  unfolding summary bestBy keep summaryOf
-  summary-nil = refl
+      go : (b : Bool) → ((s : Best) → takenAll s l ≡ metAll classOf s (keep stays l))
+          → takenAll (cond b s (meets s (classOf x) (x .index) (keysOf (x .candidate)))) l ≡ metAll classOf s (cond (not b) (x ∷ keep stays l) (keep stays l))
+      go true ih = ih s
+      go false ih = ih (meets s (classOf x) (x .index) (keysOf (x .candidate)))
 
   taken-remaining : (cs : List Candidate)
-      → takenAll Nothing (numberedFrom 0 cs) ≡ summaryOf (least classOf (keep stays (numberedFrom 0 cs))) (remaining mode client cs)
-  unfolding remaining summary
+      → takenAll Nothing (numberedFrom 0 cs) ≡ bestOf (low classOf 2 (keep stays (numberedFrom 0 cs))) (remaining mode client cs)
+  unfolding remaining
   taken-remaining cs =
-      ap (λ (b : Best). takenAll b (numberedFrom 0 cs)) (sym summary-nil) ∙ taken-kept [] (numberedFrom 0 cs)
-      ∙ rw (kept-is (numberedFrom 0 cs), best-left (keep stays (numberedFrom 0 cs))) refl
+      let l = keep stays (numberedFrom 0 cs) in
+      taken-kept (numberedFrom 0 cs) Nothing ∙ met-all classOf 2 top l ∙ rw (kept-is (numberedFrom 0 cs), best-left l) refl
 
   pub taken-none : (cs : List Candidate) → Nothing ≡ takenAll Nothing (numberedFrom 0 cs) → isEmpty (remaining mode client cs) ≡ true
-  taken-none cs e = summary-none _ (remaining mode client cs) (sym (e ∙ taken-remaining cs))
+  taken-none cs e = best-none _ (remaining mode client cs) (sym (e ∙ taken-remaining cs))
 
   pub taken-some : (cs : List Candidate) {b : BestRoute} → Route b ≡ takenAll Nothing (numberedFrom 0 cs)
       → (isEmpty (remaining mode client cs) ≡ false) × (record { index = b .index; left = b .left } ≡ chosenFrom (remaining mode client cs))
-  taken-some cs e = summary-some _ (remaining mode client cs) (sym (e ∙ taken-remaining cs))
+  taken-some cs e = best-some _ (remaining mode client cs) (sym (e ∙ taken-remaining cs))
 
   -- One candidate more adds at most one to those left.
   pub taken-left : (s : Best) (i : ℕ) (c : Candidate) → leftIn (taken mode client s i c) ≤ leftIn s + 1
   unfolding taken meets met leftIn with
-  taken-left s i c = go (isRemoved mode client (hasOtc (attributes (c .block))) (c .state) (c .address)) s
+  taken-left Nothing i c = either leftIn (isRemoved mode client _ _ _) (omega arith) (omega arith)
+  taken-left (Route b) i c =
+      either leftIn (isRemoved mode client _ _ _) (omega arith)
+      (either left (ltb (b .rank) _) (omega arith) (either left (ltb _ (b .rank)) (omega arith) (either left (before _ (listed (b .keys))) (omega arith) (omega arith))))
     where
-      n : ℕ
-      n = rank mode (c .state)
-
-      go : (r : Bool) (s : Best) → leftIn (cond r s (meets s n i (keysOf c))) ≤ leftIn s + 1
-      go true s = omega arith
-      go false Nothing = omega arith
-      go false (Route b) = pick (ltb (b .rank) n) (ltb n (b .rank)) (before (listed (keysOf c)) (listed (b .keys)))
-        where
-          pick : (higher lower better : Bool)
-              → cond higher b (cond lower (with 1 n i (keysOf c)) (cond better (with (b .left + 1) n i (keysOf c)) (with (b .left + 1) n (b .index) (b .keys)))) .left ≤ b .left + 1
-          pick true l t = omega arith
-          pick false true t = omega arith
-          pick false false true = omega arith
-          pick false false false = omega arith
+      left : BestRoute → ℕ
+      left r = r .left

@@ -34,11 +34,8 @@ pub fn choose(mode: u8, client: u32, buffer: &[u8], offers: &[u8]) -> Chosen
     if !mode_ok(mode) {
         return Chosen::Refused(Refusal::BadSetting);
     }
-    if offers.len() % OFFER_SIZE != 0 {
-        return Chosen::Refused(Refusal::BadLength);
-    }
     let count = offers.len() / OFFER_SIZE;
-    if CANDIDATES_MAX < count {
+    if offers.len() % OFFER_SIZE != 0 || CANDIDATES_MAX < count {
         return Chosen::Refused(Refusal::BadLength);
     }
     let meant = mode_meant(mode);
@@ -84,22 +81,23 @@ pub fn better<'a>(
 ) -> &'a [u8]
     ensures { λ r. ⌜ Compared (better (record { block = now (a .entry); state = sender .state; identifier = sender .identifier; address = sender .address }) (record { block = now (b .entry); state = other .state; identifier = other .identifier; address = other .address })) (a .entry) (b .entry) r (now (answer .exit)) (now (index .exit)) ⌝ }
 {
+    let empty = &a[..0];
     *answer = BAD_CANDIDATE;
     *index = 0;
     if out_of_range(a.len(), sender.state) {
-        return &a[..0];
+        return empty;
     }
     let reading = read(a);
     let Reading::Clean(layout) = reading else {
-        return &a[..0];
+        return empty;
     };
     *index = 1;
     if out_of_range(b.len(), other.state) {
-        return &a[..0];
+        return empty;
     }
     let second = read(b);
     let Reading::Clean(places) = second else {
-        return &a[..0];
+        return empty;
     };
     *answer = 0;
     let x = keys_of(a, layout, sender.identifier, sender.address);

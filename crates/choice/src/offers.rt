@@ -1,27 +1,17 @@
 // Candidates as a table offers them, and which are bad by their size or state alone (01, "Choosing a route").
-use octets::number4;
+use octets::number4_at;
 use rules::BLOCK_MAX;
 use rules::Offer;
 use settings::ranges::state_ok;
 ghost use mathlib.Core.Path.{_≡_};
 ghost use mathlib.Core.Bool.{not, _||_};
-ghost use Prim.Native.Nat.{_+_, _≤_};
 ghost use lib.Dec.{ltb};
 ghost use lib.ListN.{length};
-ghost use Rattle.rules.specs.Bytes.{bigEndian, part};
 ghost use Rattle.rules.specs.Settings.{blockMax, stateOk};
 ghost use Rattle.rules.specs.Choice.{offerSize, offer};
 
 // How many bytes a candidate has in the table.
 pub const OFFER_SIZE: usize = 17;
-
-// The number of four bytes from a position on. Internal.
-fn number_at(bytes: &[u8], at: usize) -> u32
-    requires { ⌜ at + 4 ≤ length (now bytes) ⌝ }
-    ensures { λ r. ⌜ r ≡ bigEndian (part at 4 (now (bytes .entry))) ⌝ }
-{
-    number4(&bytes[at..at + 4])
-}
 
 // Reads a candidate's bytes in the table. Internal.
 pub fn read_offer(bytes: &[u8]) -> Offer
@@ -29,11 +19,11 @@ pub fn read_offer(bytes: &[u8]) -> Offer
     ensures { λ r. ⌜ r ≡ offer (now (bytes .entry)) ⌝ }
 {
     Offer {
-        start: number_at(bytes, 0),
-        size: number_at(bytes, 4),
+        start: number4_at(bytes, 0),
+        size: number4_at(bytes, 4),
         state: bytes[8],
-        identifier: number_at(bytes, 9),
-        address: number_at(bytes, 13),
+        identifier: number4_at(bytes, 9),
+        address: number4_at(bytes, 13),
     }
 }
 

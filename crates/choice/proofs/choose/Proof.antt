@@ -2,10 +2,11 @@
 use Prim.Native.Nat.{ℕ, _-_, _≤_, _<_}
 use mathlib.Core.Path.{_≡_, sym, _∙_}
 use mathlib.Core.Bool.{true}
+use mathlib.Core.Logic.{⊎-elim}
 use mathlib.Core.List.{List}
 use native.Mathlib.Omega.{arith}
 use denote.Ref.{now}
-use borrow.Author.Tests.{not-true, not-false}
+use borrow.Author.Tests.{not-true, not-false, ltb-true, ltb-false}
 use borrow.Author.Needs.{needs}
 use Rattle.rules.specs.Answers.{Answer, refused}
 use Rattle.rules.specs.Settings.{candidatesMax, modeOk}
@@ -18,7 +19,7 @@ use Rattle.choice.proofs.choose.Statement.{statement}
 use Rattle.choice.proofs.choose.Tie as tie
 
 abbrev Inv-loop : tie.InvT-loop
-Inv-loop mode client buffer offers count meant best₀ index₀ best index = (index ≤ count) × Met client buffer offers meant best index
+Inv-loop mode client buffer offers count meant best₀ index₀ best index = (index ≤ count) × (count ≤ candidatesMax) × Met client buffer offers meant best index
 
 abbrev μ-loop : tie.MeasureT-loop
 μ-loop mode client buffer offers count meant best₀ index₀ best index = count - index
@@ -42,7 +43,7 @@ refuses : (c : tie.After-read-offer Inv-loop μ-loop) → badOffer (bufferAt (c 
 refuses c e =
     let l = c .before .before .before in
     let i = l .before .before .before .before in
-    choose-bad _ _ (bufferAt l) _ (ok i) (l .before .before .before .if2 .left) (l .before .before .if3 .left) (l .loop .inv .1) (c .before .before .loop-test .taken) (c .read-offer .ensures) e
+    choose-bad _ _ (bufferAt l) _ (ok i) (l .before .before .before .if2 .left) (l .loop .inv .1) (l .loop .inv .2) (c .before .before .loop-test .taken) (c .read-offer .ensures) e
 
 mode-ok-requires : tie.Need-mode-ok-requires Inv-loop μ-loop
 mode-ok-requires c κs = search needs
@@ -53,17 +54,15 @@ returns c = choose-setting _ _ _ _ (sym (c .before .mode-ok .ensures) ∙ not-tr
 
 returns-2 : tie.Need-returns-2 Inv-loop μ-loop
 unfolding toldChosen
-returns-2 c = choose-torn _ _ _ _ (ok (c .before)) (c .if2 .taken)
-
-returns-3 : tie.Need-returns-3 Inv-loop μ-loop
-unfolding toldChosen
-returns-3 c = choose-many _ _ _ _ (ok (c .before .before)) (c .before .if2 .left) (c .if3 .taken)
+returns-2 c =
+    let o = ok (c .before) in
+    ⊎-elim (λ w. choose-torn _ _ _ _ o (w .taken)) (λ w. choose-many _ _ _ _ o (w .0 .left) (ltb-true _ _ (w .1 .taken))) (c .if2 .came)
 
 mode-meant-requires : tie.Need-mode-meant-requires Inv-loop μ-loop
 mode-meant-requires c κs = search needs
 
 loop-holds : tie.Need-loop-holds Inv-loop μ-loop
-loop-holds c = (omega arith, met-start _ _ _ _)
+loop-holds c = (omega arith, ltb-false _ _ (c .before .if3 .left), met-start _ _ _ _)
 
 mul-at : tie.Need-mul-at Inv-loop μ-loop
 mul-at c = search needs
@@ -92,9 +91,9 @@ cast-end c = search needs
 add-end : tie.Need-add-end Inv-loop μ-loop
 add-end c = search needs
 
-returns-4 : tie.Need-returns-4 Inv-loop μ-loop
+returns-3 : tie.Need-returns-3 Inv-loop μ-loop
 unfolding toldChosen
-returns-4 c =
+returns-3 c =
     let o = c .before .before .before in
     refuses o (offer-outside _ (o .read-offer .result) (c .if4 .taken))
 
@@ -110,9 +109,9 @@ part-block-end c = search needs
 out-of-range-requires : tie.Need-out-of-range-requires Inv-loop μ-loop
 out-of-range-requires c κs = search needs
 
-returns-5 : tie.Need-returns-5 Inv-loop μ-loop
+returns-4 : tie.Need-returns-4 Inv-loop μ-loop
 unfolding toldChosen
-returns-5 c =
+returns-4 c =
     let g = c .before in
     let o = g .before .before .before .before .before in
     let b = bufferAt (o .before .before .before) in
@@ -127,9 +126,9 @@ enum-known-reading c = search needs
 enum-told : tie.Need-enum-told Inv-loop μ-loop
 enum-told c = search needs
 
-returns-6 : tie.Need-returns-6 Inv-loop μ-loop
+returns-5 : tie.Need-returns-5 Inv-loop μ-loop
 unfolding toldChosen
-returns-6 c =
+returns-5 c =
     let r = c .before .before in
     let g = r .before .before in
     let o = g .before .before .before .before .before in
@@ -141,7 +140,7 @@ take-requires c κs =
     let r = c .before .before .before in
     let t = r .before .before .before .before .before .before .before .before .before in
     let l = t .before in
-    let h : leftIn (l .loop .best) < candidatesMax = omega (arith, l .loop .inv .1 .few, t .loop-test .taken, l .before .before .if3 .left) in
+    let h : leftIn (l .loop .best) < candidatesMax = omega (arith, l .loop .inv .2 .few, t .loop-test .taken, l .loop .inv .1) in
     (clean-reads _ (r .read .ensures) (c .before .reading .given .1), h)
 
 add-index : tie.Need-add-index Inv-loop μ-loop
@@ -158,7 +157,7 @@ loop-again c =
     let l = o .before .before .before in
     let b = bufferAt l in
     let e = offer-inside b (o .read-offer .result) (g .before .before .if4 .left) (clean-good (lent b (o .read-offer .result)) (g .out-of-range .ensures) (r .before .if5 .left) (r .read .ensures) (c .before .before .reading .given .1)) in
-    (search needs, met-next (l .loop .inv .1) (o .before .before .loop-test .taken) (o .read-offer .ensures) e (c .take .ensures))
+    (search needs, l .loop .inv .1, met-next (l .loop .inv .2) (o .before .before .loop-test .taken) (o .read-offer .ensures) e (c .take .ensures))
 
 enum-known-best : tie.Need-enum-known-best Inv-loop μ-loop
 enum-known-best c = search needs
@@ -166,21 +165,21 @@ enum-known-best c = search needs
 enum-told-2 : tie.Need-enum-told-2 Inv-loop μ-loop
 enum-told-2 c = search needs
 
-returns-7 : tie.Need-returns-7 Inv-loop μ-loop
+returns-6 : tie.Need-returns-6 Inv-loop μ-loop
 unfolding toldChosen
-returns-7 c =
+returns-6 c =
     let e = c .before .before in
     let l = e .before in
     let m = l .before in
-    choose-none _ _ _ _ (ok (m .before .before .before)) (m .before .before .if2 .left) (m .before .if3 .left) (l .loop .inv .1) (e .loop-test .left) (m .mode-meant .ensures) (c .enum-told2 .given .1)
+    choose-none _ _ _ _ (ok (m .before .before .before)) (m .before .before .if2 .left) (l .loop .inv .1) (l .loop .inv .2) (e .loop-test .left) (m .mode-meant .ensures) (c .enum-told2 .given .1)
 
-returns-8 : tie.Need-returns-8 Inv-loop μ-loop
+returns-7 : tie.Need-returns-7 Inv-loop μ-loop
 unfolding toldChosen
-returns-8 c =
+returns-7 c =
     let e = c .before .before .before in
     let l = e .before in
     let m = l .before in
-    choose-some _ _ _ _ (ok (m .before .before .before)) (m .before .before .if2 .left) (m .before .if3 .left) (l .loop .inv .1) (e .loop-test .left) (m .mode-meant .ensures) (c .before .best .given .1)
+    choose-some _ _ _ _ (ok (m .before .before .before)) (m .before .before .if2 .left) (l .loop .inv .1) (l .loop .inv .2) (e .loop-test .left) (m .mode-meant .ensures) (c .before .best .given .1)
 
 pub choose-spec : {M : Type 1} → statement M
 choose-spec =
@@ -191,7 +190,6 @@ choose-spec =
     mode-ok-requires
     returns
     returns-2
-    returns-3
     mode-meant-requires
     loop-holds
     mul-at
@@ -203,21 +201,21 @@ choose-spec =
     cast-start
     cast-end
     add-end
-    returns-4
+    returns-3
     sub-block
     part-block-start
     part-block-end
     out-of-range-requires
-    returns-5
+    returns-4
     read-requires
     enum-known-reading
     enum-told
-    returns-6
+    returns-5
     take-requires
     add-index
     loop-less
     loop-again
     enum-known-best
     enum-told-2
-    returns-7
-    returns-8)
+    returns-6
+    returns-7)

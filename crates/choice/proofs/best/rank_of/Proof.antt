@@ -1,6 +1,6 @@
 -- `rank_of` meets its contract.
 use Rattle.choice.proofs.Ordering.{rank-one, rank-class, class-last}
-use mathlib.Core.Path.{refl, _∙_}
+use mathlib.Core.Path.{refl}
 use Rattle.choice.proofs.best.rank_of.Statement.{statement}
 use Rattle.choice.proofs.best.rank_of.Tie as tie
 

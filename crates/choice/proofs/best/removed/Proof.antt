@@ -1,5 +1,4 @@
 -- `removed` meets its contract.
-use mathlib.Core.Path.{refl}
 use borrow.Author.Tests.{eq-eqb, ne-eqb}
 use Rattle.choice.specs.Bests.{isRemoved}
 use Rattle.choice.proofs.best.removed.Statement.{statement}

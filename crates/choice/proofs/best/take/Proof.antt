@@ -1,12 +1,7 @@
 -- `take` meets its contract.
-use mathlib.Core.Path.{_≡_, ap}
-use native.Mathlib.Omega.{arith}
 use denote.Ref.{now}
 use Rattle.rules.specs.Choice.{Candidate}
 use Rattle.choice.specs.Bests.{with, leftIn}
-use Rattle.choice.specs.declared.best.Best.{Best}
-use Rattle.choice.specs.declared.best.Best.the-variants.{Route}
-use Rattle.choice.specs.declared.best.BestRoute.{BestRoute}
 use Rattle.choice.proofs.Taking.{taken-removed, taken-first, taken-next}
 use borrow.Author.Needs.{needs}
 use Rattle.choice.proofs.best.take.Statement.{statement}
@@ -14,11 +9,6 @@ use Rattle.choice.proofs.best.take.Tie as tie
 
 removed-requires : tie.Need-removed-requires
 removed-requires c κs = search needs
-
--- How many are left is said of the route that the enum holds.
-left-route : {best : Best} {b : BestRoute} → best ≡ Route b → leftIn best ≡ b .left
-unfolding leftIn
-left-route e = ap leftIn e
 
 -- The candidate.
 abbrev it : tie.Start → Candidate
@@ -50,9 +40,8 @@ returns-2 c =
     taken-first _ _ _ _ (it s) (s .pre .0) (i .before .removed .ensures) (i .if1 .left) (k .before .rank-of .ensures) (k .keys-of .ensures) (c .enum-told .given .1)
 
 meet-requires : tie.Need-meet-requires
-meet-requires c κs =
-    let i = c .before .before .before .before .before in
-    omega (arith, left-route (c .before .best .given .1), i .before .before .before .before .pre .1)
+unfolding leftIn
+meet-requires c κs = rw (c .before .best .given .1) at (c .before .before .before .before .before .before .before .before .before .pre .1)
 
 returns-3 : tie.Need-returns-3
 returns-3 c =
