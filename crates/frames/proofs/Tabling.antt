@@ -8,9 +8,9 @@ use borrow.Author.Tests.{lt-ltb, le-ltb, le-leb, lt-leb, ltb-false, leb-false, e
 use lib.Dec.{eqb, ltb, leb}
 use lib.ListN.{length, take, drop, getD, length-append, length-drop, length-map}
 use lib.Seq.{length-take-le, take-all, take-at}
-use Rattle.rules.specs.Bytes.{exists}
+use Rattle.rules.specs.Bytes.{exists, oneOf}
 use Rattle.rules.specs.Rows.{chop, by}
-use Rattle.rules.specs.Answers.{Answer, done, refused, answer, order, first, number, _when_}
+use Rattle.rules.specs.Answers.{Answer, Check, done, refused, answer, order, first, number}
 use Rattle.rules.specs.Settings.{vrpsMax}
 use Rattle.rules.specs.Origin.{ipv4, Vrp, vrp, vrpSize, vrps, badVrp}
 use Rattle.rules.specs.Desk.{Desk, sessionFrame, receiptFrame, sendingFrame, vrpIn, vrpFrame, inSession, frameAnswer, frameNext}
@@ -18,6 +18,7 @@ use Rattle.rules.specs.declared.Refusal.the-variants.{BadLength, BadVrp, Unread
 use Rattle.frames.specs.declared.reply.Reply.{Reply}
 use Rattle.frames.specs.declared.reply.Reply.the-variants.{Bytes, Refused}
 use Rattle.rules.proofs.Fixed.{whole-count, items-more}
+use Rattle.rules.proofs.Answers.{Passed, answer-done}
 use Rattle.rules.proofs.Lists.{exists-append}
 use Rattle.octets.specs.Buffer.{splice, Stored}
 use Rattle.octets.proofs.Splices.{splice-length}
@@ -31,6 +32,18 @@ use Rattle.frames.proofs.Framing.{replies-refused}
 -- The record of a frame of 11 bytes.
 record-is : (f : List ℕ) → length f ≤ 11 → take 10 (drop 1 f) ≡ drop 1 f
 record-is f h = take-all 10 (drop 1 f) (omega (arith, length-drop 1 f))
+
+-- Where an answer is 0, no check applied.
+done-passed : (checks : List Check) (x : List ℕ) → wasDone (answer order checks x) ≡ true → Passed order checks
+done-passed checks x e = go (answer order checks x) refl e
+  where
+    go : (a : Answer (List ℕ)) → answer order checks x ≡ a → wasDone a ≡ true → Passed order checks
+    go (done y) q z = answer-done order checks x y q .1
+    go (refused r) q z = absurd (false≢true (unfold wasDone in z))
+
+neither : (x y : Bool) → x || y ≡ false → (x ≡ false) × (y ≡ false)
+neither true y e = absurd (true≢false e)
+neither false y e = (refl, e)
 
 module _ {used : ℕ} {table : List ℕ} (k : Keeps used table) where
   abbrev taken : List Vrp
@@ -76,21 +89,13 @@ module _ {used : ℕ} {table : List ℕ} (k : Keeps used table) where
         unfolding replied
         vrp-taken e z = record { is = sym (rw (vrp-is e, z) refl); within = (omega arith, omega arith) }
 
-  -- What a VRP frame that was answered 0 is.
-  passed : (p q t v : Bool) → wasDone (answer order (Unreadable when p ∷ BadLength when (q || t) ∷ BadVrp 0 when v ∷ []) []) ≡ true
-      → (p ≡ false) × (q ≡ false) × (t ≡ false) × (v ≡ false)
-  unfolding answer order first number wasDone
-  passed true q t v e = absurd (false≢true e)
-  passed false true t v e = absurd (false≢true e)
-  passed false false true v e = absurd (false≢true e)
-  passed false false false true e = absurd (false≢true e)
-  passed false false false false e = (refl, refl, refl, refl)
-
+  -- What a VRP frame that was answered 0 is: none of its checks applied.
   pub vrp-done : (f : List ℕ) → wasDone (vrpFrame taken f) ≡ true → (length f ≡ 11) × (used + 10 ≤ tableMax) × (badVrp ipv4 (vrpIn f) ≡ false)
-  unfolding vrpFrame vrpSize
+  unfolding vrpFrame vrpSize order number oneOf exists
   vrp-done f e =
-      let w = passed (ltb (length f) 11) (ltb 11 (length f)) (leb vrpsMax (length taken)) (badVrp ipv4 (vrpIn f)) e in
-      (omega (arith, ltb-false (length f) 11 (w .0), ltb-false 11 (length f) (w .1)), omega (arith, records, k .whole, leb-false vrpsMax (length taken) (w .2)), w .3)
+      let w = done-passed _ [] e in
+      let l = neither (ltb 11 (length f)) (leb vrpsMax (length taken)) (w .1 .0 refl) in
+      (omega (arith, ltb-false (length f) 11 (w .0 refl), ltb-false 11 (length f) (l .0)), omega (arith, records, k .whole, leb-false vrpsMax (length taken) (l .1)), w .1 .1 .0 refl)
 
 -- ---- The answer to a frame by its kind
 
@@ -135,12 +140,8 @@ next kept table f = frameNext (deskOf kept table) f (frameAnswer (deskOf kept ta
 
 module _ (kept : Kept) (table f : List ℕ) {x : Bool} (d : wasDone (frameAnswer (deskOf kept table) f) ≡ x) where
   pub kept-long : getD f 0 0 ≡ 1 → x ≡ true → 12 ≤ length f
-  unfolding frameAnswer sessionFrame answer order first number wasDone
-  kept-long e z = go (ltb (length f) 12) refl (rw (← z) d)
-    where
-      go : (y : Bool) → ltb (length f) 12 ≡ y → wasDone (frameAnswer (deskOf kept table) f) ≡ true → 12 ≤ length f
-      go true q t = absurd (false≢true (rw (← t, e, q) refl))
-      go false q t = ltb-false (length f) 12 q
+  unfolding frameAnswer sessionFrame order number oneOf exists
+  kept-long e z = ltb-false (length f) 12 (done-passed _ _ (rw e at (d ∙ z)) .0 refl)
 
   pub kept-session : getD f 0 0 ≡ 1 → {k : Kept} → k ≡ keptSession kept f x → deskOf k table ≡ next kept table f
   unfolding deskOf keptSession frameNext wasDone

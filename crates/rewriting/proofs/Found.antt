@@ -1,7 +1,7 @@
 -- Where the communities attribute stands among a block's attributes.
 use mathlib.Core.Path.{_≡_, refl, _∙_, ap}
 use mathlib.Core.Bool.{Bool, true, false, cond, _||_, true≢false, false≢true}
-use mathlib.Core.List.{List, [], _∷_, _++_, flatMap}
+use mathlib.Core.List.{List, [], _∷_, _++_, append-nil, flatMap}
 use Prim.Native.Nat.{ℕ, _+_, _-_, _≤_}
 use native.Mathlib.Omega.{arith}
 use lib.Dec.{ltb, eqb}
@@ -11,6 +11,7 @@ use Rattle.rules.specs.Bytes.{part, isEmpty, exists}
 use Rattle.rules.specs.Attributes.{Attribute, encode, encodeOne, isType, has}
 use Rattle.rules.specs.Changes.{dropFrom, withValue}
 use Rattle.rules.proofs.Lists.{bit, keep-append}
+use Rattle.rules.proofs.Dropping.{left}
 use Rattle.rules.proofs.Blocks.{All, Framed}
 use Rattle.rules.proofs.Parts.{only, is, count, count-cons, has-count, size, size-cons, encode-append}
 use Rattle.attributes.specs.Layout.{place, placeOf}
@@ -154,3 +155,25 @@ pub one-only : {l : List Attribute} (f : Found l) → count 16 l ≤ 1 → has 1
 one-only f once =
     has-zero (f .after)
     (omega (arith, once, ap (count 16) (f .whole), count-append (f .before) (f .here ∷ f .after), count-cons (is 16) (f .here) (f .after), ap bit (f .type)))
+
+-- No communities attribute, no communities.
+pub left-none : (dropped : List ℕ → Bool) (l : List Attribute) → has 16 l ≡ false → left dropped l ≡ []
+unfolding left has exists isType
+left-none dropped [] e = refl
+left-none dropped (a ∷ l) e = step (eqb (a .type) 16) e (left-none dropped l)
+  where
+    step : (x : Bool) → x || has 16 l ≡ false → (has 16 l ≡ false → left dropped l ≡ []) → cond x (dropFrom dropped (a .value)) [] ++ left dropped l ≡ []
+    step true e ih = absurd (true≢false e)
+    step false e ih = ih e
+
+-- One, and they are its own.
+pub left-one : (dropped : List ℕ → Bool) (x : List Attribute) (a : Attribute) (y : List Attribute) → has 16 x ≡ false → eqb (a .type) 16 ≡ true → has 16 y ≡ false
+    → left dropped (x ++ (a ∷ y)) ≡ dropFrom dropped (a .value)
+unfolding left has exists isType
+left-one dropped [] a y e t f = rw (t, left-none dropped y f) (append-nil (dropFrom dropped (a .value)))
+left-one dropped (z ∷ x) a y e t f = step (eqb (z .type) 16) e (λ q. left-one dropped x a y q t f)
+  where
+    step : (q : Bool) → q || has 16 x ≡ false → (has 16 x ≡ false → left dropped (x ++ (a ∷ y)) ≡ dropFrom dropped (a .value))
+        → cond q (dropFrom dropped (z .value)) [] ++ left dropped (x ++ (a ∷ y)) ≡ dropFrom dropped (a .value)
+    step true e ih = absurd (true≢false e)
+    step false e ih = ih e

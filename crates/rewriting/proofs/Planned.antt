@@ -1,6 +1,6 @@
 -- A plan that is made from the places of a readable block fits the block, and stands for the bytes that `rules` asks for.
 use mathlib.Core.Path.{_≡_, refl, sym, _∙_, ap, subst}
-use mathlib.Core.Bool.{Bool, true, false, cond, _||_, true≢false}
+use mathlib.Core.Bool.{Bool, true, false, cond}
 use mathlib.Core.List.{List, [], _∷_, _++_, append-assoc, append-nil, flatMap}
 use mathlib.Core.Logic.{_⊎_, inl, inr}
 use Prim.Native.Nat.{ℕ, _+_, _-_, _≤_, _<_}
@@ -8,8 +8,8 @@ use native.Mathlib.Omega.{arith}
 use lib.Dec.{ltb, eqb}
 use lib.ListN.{length, length-append}
 use borrow.Author.Tests.{le-ltb, ltb-false}
-use Rattle.rules.specs.Bytes.{part, exists}
-use Rattle.rules.specs.Attributes.{Attribute, attribute, encode, encodeOne, isType, has, hasOtc}
+use Rattle.rules.specs.Bytes.{part}
+use Rattle.rules.specs.Attributes.{Attribute, attribute, encode, encodeOne, has, hasOtc}
 use Rattle.rules.specs.Settings.{blockMax}
 use Rattle.rules.specs.Changes.{dropFrom, rewritten}
 use Rattle.rules.proofs.Blocks.{All, Framed, all-map, attribute-encode}
@@ -24,7 +24,7 @@ use Rattle.rewriting.specs.declared.plan.Plan.{Plan}
 use Rattle.rewriting.proofs.Fronts.{front, back, front-back, front-size}
 use Rattle.rewriting.proofs.Turned.{turnedAll, turned-append}
 use Rattle.rewriting.proofs.Outgoing.{outgoing-bytes}
-use Rattle.rewriting.proofs.Found.{pastCommunities, part-middle, size-append, length-five, value-le, Found, found, place-found, place-none, place-le-past, past-le, framed-middle, one-only}
+use Rattle.rewriting.proofs.Found.{pastCommunities, part-middle, size-append, length-five, value-le, Found, found, place-found, place-none, place-le-past, past-le, framed-middle, one-only, left-none, left-one}
 use Rattle.rewriting.proofs.Placed.{turned-found, piece-is}
 
 -- The plan of a block with the attributes l: its numbers are those of l.
@@ -52,28 +52,6 @@ place-past (a ∷ l) = step (ltb 16 (a .type)) refl (place-past l)
     step true e ih = omega (arith, front-size (ltb 35) (a ∷ l))
     step false e ih =
         rw (le-ltb 35 (a .type) (omega (arith, ltb-false 16 (a .type) e))) (omega (arith, ih, size-cons a (front (ltb 16) l)))
-
--- No communities attribute, no communities.
-pub left-none : (dropped : List ℕ → Bool) (l : List Attribute) → has 16 l ≡ false → left dropped l ≡ []
-unfolding left has exists isType
-left-none dropped [] e = refl
-left-none dropped (a ∷ l) e = step (eqb (a .type) 16) e (left-none dropped l)
-  where
-    step : (x : Bool) → x || has 16 l ≡ false → (has 16 l ≡ false → left dropped l ≡ []) → cond x (dropFrom dropped (a .value)) [] ++ left dropped l ≡ []
-    step true e ih = absurd (true≢false e)
-    step false e ih = ih e
-
--- One, and they are its own.
-pub left-one : (dropped : List ℕ → Bool) (x : List Attribute) (a : Attribute) (y : List Attribute) → has 16 x ≡ false → eqb (a .type) 16 ≡ true → has 16 y ≡ false
-    → left dropped (x ++ (a ∷ y)) ≡ dropFrom dropped (a .value)
-unfolding left has exists isType
-left-one dropped [] a y e t f = rw (t, left-none dropped y f) (append-nil (dropFrom dropped (a .value)))
-left-one dropped (z ∷ x) a y e t f = step (eqb (z .type) 16) e (λ q. left-one dropped x a y q t f)
-  where
-    step : (q : Bool) → q || has 16 x ≡ false → (has 16 x ≡ false → left dropped (x ++ (a ∷ y)) ≡ dropFrom dropped (a .value))
-        → cond q (dropFrom dropped (z .value)) [] ++ left dropped (x ++ (a ∷ y)) ≡ dropFrom dropped (a .value)
-    step true e ih = absurd (true≢false e)
-    step false e ih = ih e
 
 module _ (l : List Attribute) where
   F : List Attribute

@@ -27,8 +27,8 @@ use Rattle.communities.specs.Tags.{dropTest, toldTag}
 use Rattle.rewriting.specs.Plan.{toldOtc, leftOf, communityBytes, newTagBytes, newOtcBytes, item, emitted, Whole, Leaving, PlanOk, Planned, ReadBlock, Sizing, turnedSize}
 use Rattle.rewriting.specs.declared.plan.Plan.{Plan}
 use Rattle.rewriting.proofs.Turned.{turnedAll}
-use Rattle.rewriting.proofs.Found.{pastCommunities, turned-none, Found, found, place-found, place-none, past-none, framed-middle, one-only}
-use Rattle.rewriting.proofs.Planned.{PlanOf, left-none, left-one, emitted-is, emitted-size, plan-ok, turned-size}
+use Rattle.rewriting.proofs.Found.{pastCommunities, turned-none, Found, found, place-found, place-none, past-none, framed-middle, one-only, left-none, left-one}
+use Rattle.rewriting.proofs.Planned.{PlanOf, emitted-is, emitted-size, plan-ok, turned-size}
 
 place-within : (l : List Attribute) → placeOf 16 l ≤ size l
 unfolding placeOf

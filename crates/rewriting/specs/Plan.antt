@@ -38,6 +38,11 @@ unfoldable pub communityBytes : (List ℕ → Bool) → ℕ → List ℕ → Lis
 communityBytes dropped state item =
     cond (isEmpty (leftOf dropped item)) [] (encodeOne (withValue (attribute item) (leftOf dropped item ++ tagBytes state)))
 
+-- Its size, whatever is dropped, where `left` bytes of communities are left.
+abbrev pub CommunitySize : List ℕ → ℕ → ℕ → ℕ → Type 0
+CommunitySize item left state r =
+    (dropped : List ℕ → Bool) → left ≡ length (leftOf dropped item) → r ≡ length (communityBytes dropped state item)
+
 -- New attributes: a tag where no community is left, and an OTC.
 unfoldable pub newTagBytes : ℕ → ℕ → ℕ → List ℕ
 newTagBytes flags left state = cond (eqb left 0 && leb state invalid) (encodeOne (newAttribute flags communitiesType (tag state))) []
@@ -85,6 +90,11 @@ pub record PlanOk (b : List ℕ) (p : Plan) : Type 0 where
   pub otcPlace : p .«new_otc» ≤ length b
   pub tagClear : Clear p (p .«new_tag»)
   pub otcClear : Clear p (p .«new_otc»)
+
+-- The bytes from one place to another can be stored at an index of a buffer.
+abbrev pub Fits : List ℕ → Plan → ℕ → ℕ → List ℕ → ℕ → Type 0
+Fits b p from to out at =
+    PlanOk b p × (from ≤ to) × (to ≤ length b) × Clear p to × (at + length (piece b p from to) ≤ length out)
 
 -- A plan stands for attributes: it fits the block, its bytes are theirs, and it knows how many they are.
 pub record Stands (b : List ℕ) (m : List Attribute) (p : Plan) : Type 0 where

@@ -6,13 +6,13 @@ use communities::tags::put_tag;
 use communities::tags::tag_size;
 use octets::buffer::put;
 ghost use mathlib.Core.Path.{_≡_};
-ghost use mathlib.Core.Bool.{Bool};
-ghost use mathlib.Core.List.{List, _++_};
-ghost use Prim.Native.Nat.{ℕ, _+_, _≤_, _<_};
+ghost use mathlib.Core.List.{_++_};
+ghost use Prim.Native.Nat.{_+_, _≤_, _<_};
 ghost use lib.ListN.{length};
+ghost use Rattle.rules.specs.Settings.{blockMax};
 ghost use Rattle.octets.specs.Buffer.{Stored};
 ghost use Rattle.communities.specs.Tags.{dropTest, tagBytes};
-ghost use Rattle.rewriting.specs.Plan.{valueFlags, header, leftOf, communityBytes, Whole, Leaving};
+ghost use Rattle.rewriting.specs.Plan.{valueFlags, header, leftOf, communityBytes, CommunitySize, Whole, Leaving};
 
 // The flags of an attribute that gets a value of n bytes: a short form that n passes becomes long. Internal.
 fn value_flags(flags: u8, n: usize) -> u8
@@ -54,8 +54,8 @@ fn put_value(a: &[u8], test: u8, state: u8, out: &mut [u8], at: usize) -> usize
 // How many bytes a communities attribute has as it goes out, whatever is dropped, where `left` bytes of communities are left.
 // Internal.
 pub fn community_size(a: &[u8], left: usize, state: u8) -> usize
-    requires { ⌜ (Whole (now a)) × (left ≤ length (now a)) × (length (now a) < 65000) ⌝ }
-    ensures { λ r. ⌜ ((dropped : List ℕ → Bool) → left ≡ length (leftOf dropped (now (a .entry))) → r ≡ length (communityBytes dropped state (now (a .entry)))) × (r ≤ left + 12) ⌝ }
+    requires { ⌜ (Whole (now a)) × (left ≤ length (now a)) × (length (now a) ≤ blockMax) ⌝ }
+    ensures { λ r. ⌜ (CommunitySize (now (a .entry)) left state r) × (r ≤ left + 12) ⌝ }
 {
     if left == 0 {
         return 0;

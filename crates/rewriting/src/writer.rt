@@ -12,7 +12,7 @@ use settings::states::INVALID;
 ghost use Prim.Native.Nat.{_+_, _≤_};
 ghost use lib.ListN.{length};
 ghost use Rattle.octets.specs.Buffer.{Stored};
-ghost use Rattle.rewriting.specs.Plan.{newTagBytes, newOtcBytes, piece, emitted, Clear, PlanOk};
+ghost use Rattle.rewriting.specs.Plan.{newTagBytes, newOtcBytes, piece, emitted, PlanOk, Fits};
 
 // Stores a new tag attribute, where no community is left and there is a state to tell. Internal.
 fn put_new_tag(flags: u8, left: usize, state: u8, out: &mut [u8], at: usize) -> usize
@@ -56,7 +56,7 @@ fn put_new_otc(flags: u8, asn: u32, out: &mut [u8], at: usize) -> usize
 
 // Stores the bytes of a block from one place to another, its communities attribute as it goes out. Internal.
 fn put_piece(block: &[u8], plan: Plan, from: usize, to: usize, out: &mut [u8], at: usize) -> usize
-    requires { ⌜ (PlanOk (now block) plan) × (from ≤ to) × (to ≤ length (now block)) × (Clear plan to) × (at + length (piece (now block) plan from to) ≤ length (now out)) ⌝ }
+    requires { ⌜ Fits (now block) plan from to (now out) at ⌝ }
     ensures { λ r. ⌜ Stored (now (out .entry)) at (piece (now (block .entry)) plan from to) r (now (out .exit)) ⌝ }
 {
     let communities = plan.communities;

@@ -10,20 +10,13 @@ use lib.ListN.{length, drop, getD, set, drop-of-length-le}
 use lib.Seq.{drop-cons, sets-eq, take-at}
 use Rattle.rules.specs.Bytes.{every, over}
 use Rattle.rules.specs.Text.{digitsMax, digit, isDigit, fromHex, readableLine, upperDigit, toHex}
+use Rattle.rules.proofs.Lists.{and-left, and-right}
 use Rattle.octets.specs.Buffer.{splice, Stored}
 use Rattle.octets.proofs.Splices.{splice-zero}
 use Rattle.octets.proofs.Writing.{Writing, writing-start, writing-rest, writing-length, writing-step, writing-end}
 use Rattle.text.specs.Hex.{spelled, Read}
 
 -- ---- Bytes from digits
-
-and-left : (x y : Bool) → x && y ≡ true → x ≡ true
-and-left true y h = refl
-and-left false y h = h
-
-and-right : (x y : Bool) → x && y ≡ true → y ≡ true
-and-right true y h = h
-and-right false y h = cc
 
 -- A line of digits alone spells all its bytes.
 spelled-all : (l : List ℕ) → every isDigit l ≡ true → spelled l ≡ fromHex l
