@@ -95,7 +95,7 @@ returns-3 : tie.Need-returns-3 Inv-loop μ-loop
 unfolding toldChosen
 returns-3 c =
     let o = c .before .before .before in
-    refuses o (offer-outside _ (o .read-offer .result) (c .if4 .taken))
+    refuses o (offer-outside (bufferAt (o .before .before .before)) (o .read-offer .result) (c .if4 .taken))
 
 sub-block : tie.Need-sub-block Inv-loop μ-loop
 sub-block c = search needs
