@@ -1,12 +1,13 @@
 -- The best route so far, and what one candidate more makes of it.
 use Prim.Native.Nat.{ℕ, _+_}
 use mathlib.Core.Bool.{Bool, cond, _&&_, _||_}
-use mathlib.Core.List.{[], _∷_}
+use mathlib.Core.List.{List, [], _∷_}
 use lib.Dec.{ltb, eqb}
 use lib.ListN.{getD}
 use Rattle.rules.specs.Settings.{dropInvalid, prioritise, invalid}
 use Rattle.rules.specs.Attributes.{attributes, hasOtc}
 use Rattle.rules.specs.Choice.{Candidate, before}
+use Rattle.rules.specs.declared.Offer.{Offer}
 use Rattle.choice.specs.declared.keys.Keys.{Keys}
 use Rattle.choice.specs.declared.best.Best.{Best}
 use Rattle.choice.specs.declared.best.Best.the-variants.{Nothing, Route}
@@ -41,6 +42,10 @@ meets (Route best) rank index keys = Route (met best rank index keys)
 unfoldable pub leftIn : Best → ℕ
 leftIn Nothing = 0
 leftIn (Route best) = best .left
+
+-- The candidate that an offer makes with this block.
+abbrev pub offered : Offer → List ℕ → Candidate
+offered o block = record { block = block; state = o .state; identifier = o .identifier; address = o .address }
 
 -- One candidate more, of this index: removed, or met.
 unfoldable pub taken : ℕ → ℕ → Best → ℕ → Candidate → Best

@@ -14,7 +14,7 @@ ghost use mathlib.Core.Path.{_≡_};
 ghost use Prim.Native.Nat.{_<_};
 ghost use Rattle.rules.specs.Settings.{candidatesMax};
 ghost use Rattle.choice.specs.Keys.{Reads};
-ghost use Rattle.choice.specs.Bests.{isRemoved, rank, met, leftIn, taken};
+ghost use Rattle.choice.specs.Bests.{isRemoved, rank, met, leftIn, offered, taken};
 
 // The best route so far: how many are left of its class, it among them, its class, its index and its keys.
 pub struct BestRoute {
@@ -106,7 +106,7 @@ pub fn take(
     layout: Layout,
 ) -> Best
     requires { ⌜ Reads (now block) layout × (leftIn best < candidatesMax) ⌝ }
-    ensures { λ r. ⌜ r ≡ taken mode client best index (record { block = now (block .entry); state = offer .state; identifier = offer .identifier; address = offer .address }) ⌝ }
+    ensures { λ r. ⌜ r ≡ taken mode client best index (offered offer (now (block .entry))) ⌝ }
 {
     let otc = layout.otc < block.len();
     if removed(mode, client, otc, offer.state, offer.address) {

@@ -7,11 +7,9 @@ use rules::Refusal;
 use settings::ranges::opening_ok;
 use settings::roles::remote_role;
 ghost use mathlib.Core.Path.{_≡_};
-ghost use mathlib.Core.Bool.{_&&_};
-ghost use mathlib.Core.List.{_++_};
 ghost use Rattle.rules.specs.Answers.{toldOpened};
 ghost use Rattle.rules.specs.Roles.{parametersOk, rolesIn, openSession};
-ghost use Rattle.opening.specs.Open.{noted, capabilitiesOk, capabilityRoles, found, seenDisagree};
+ghost use Rattle.opening.specs.Open.{noted, found, foundIn, seenDisagree};
 
 // The type of the parameter that holds capabilities (RFC 5492 section 4), and the code of the BGP Role capability (RFC 9234 section 4.1).
 const CAPABILITIES: u8 = 2;
@@ -68,7 +66,7 @@ fn read_parameters(s: &[u8], seen: Seen) -> Found
 
 // Reads the capabilities of a parameter through (code, length, value), then the parameters after it. Code 9 is a role.
 fn read_capabilities(c: &[u8], after: &[u8], seen: Seen) -> Found
-    ensures { λ r. ⌜ r ≡ found (capabilitiesOk (now (c .entry)) && parametersOk (now (after .entry))) seen (capabilityRoles (now (c .entry)) ++ rolesIn (now (after .entry))) ⌝ }
+    ensures { λ r. ⌜ r ≡ foundIn (now (c .entry)) (now (after .entry)) seen ⌝ }
 {
     if c.len() == 0 {
         return read_parameters(after, seen);
