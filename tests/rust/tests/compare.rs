@@ -5,7 +5,7 @@ use policy_tests::generate::{
     Random, ASNS,
 };
 use policy_tests::tables::Tally;
-use policy_tests::{patterns, reference, shown};
+use policy_tests::{fast, patterns, shown};
 
 const ROUNDS: usize = 20_000;
 
@@ -28,10 +28,8 @@ impl Call {
 
     fn plain(self, block: &[u8], out: &mut [u8]) -> (u8, usize) {
         match self {
-            Call::Receive(session) => reference::receive(session, block, out),
-            Call::Send(session, source, state) => {
-                reference::send(session, source, state, block, out)
-            }
+            Call::Receive(session) => fast::receive(session, block, out),
+            Call::Send(session, source, state) => fast::send(session, source, state, block, out),
         }
     }
 }

@@ -3,7 +3,7 @@
 use bgp_policy::{table, Candidate, Offer};
 use policy_tests::generate::{block, block_of_length, damaged, faulty_block, Random, ASNS};
 use policy_tests::tables::{parameters, parameters_of_length, prefix, vrp, Tally};
-use policy_tests::{counterpart, reference, shown};
+use policy_tests::{counterpart, fast, shown};
 
 const ROUNDS: usize = 40_000;
 
@@ -34,7 +34,7 @@ fn agree_on_open(random: &mut Random, parameters: &[u8], role: u8, tally: &mut T
         0 => random.pick(&[2, 255]),
         _ => random.below(2) as u8,
     };
-    let plain = reference::open(local_role, strict, parameters);
+    let plain = fast::open(local_role, strict, parameters);
     let library = bgp_policy::open(local_role, strict, parameters);
     assert!(
         library == plain,
@@ -73,7 +73,7 @@ fn agree_on_state(random: &mut Random, table: &[u8], block: &[u8], tally: &mut T
     };
     let own_as = random.pick(&[ASNS[0], ASNS[1], ASNS[3], 7, 8, 9, 10, 11, 12, 0]);
     let prefix = prefix(random);
-    let plain = reference::origin_state(length, prefix, own_as, table, block);
+    let plain = fast::origin_state(length, prefix, own_as, table, block);
     let library = bgp_policy::origin_state(length, prefix, own_as, table, block);
     assert!(
         library == plain,
@@ -115,7 +115,7 @@ fn received_tag_agrees() {
     let (mut random, mut tally) = (Random(13), Tally::default());
     for _ in 0..ROUNDS {
         let block = some_block(&mut random);
-        let plain = reference::received_tag(&block);
+        let plain = fast::received_tag(&block);
         let library = bgp_policy::received_tag(&block);
         assert!(
             library == plain,
@@ -163,7 +163,7 @@ fn agree_on_choice(random: &mut Random, buffer: &[u8], candidates: &[u8], tally:
         _ => random.below(4) as u8,
     };
     let client = random.pick(&[1, 2, 9]);
-    let plain = reference::choose(mode, client, buffer, candidates);
+    let plain = fast::choose(mode, client, buffer, candidates);
     let library = bgp_policy::choose(mode, client, buffer, candidates);
     assert!(
         library == plain,
@@ -216,7 +216,7 @@ fn comparing_two_agrees() {
         // Every third pair has the same block, so that identifier, address and index decide.
         let second = if round % 3 == 0 { 0 } else { 1 };
         let (first, second) = (candidate(&blocks[0]), candidate(&blocks[second]));
-        let plain = reference::better(first, second);
+        let plain = fast::better(first, second);
         let library = bgp_policy::better(first, second);
         assert!(
             library == plain,

@@ -1,7 +1,7 @@
 //! The desk program and the plain desk print the same for seeded line streams, and the plain desk the same in any pieces.
 use policy_tests::generate::Random;
 use policy_tests::stream::{stream, vrps};
-use policy_tests::{desk_program, reference};
+use policy_tests::{desk_program, fast};
 use std::collections::BTreeMap;
 use std::io::Write;
 use std::path::Path;
@@ -31,7 +31,7 @@ fn run(input: &[u8]) -> Vec<u8> {
 
 // The program's whole output is the plain desk's.
 fn agree(name: &str, input: &[u8]) -> Vec<u8> {
-    let (got, expected) = (run(input), reference::desk(input));
+    let (got, expected) = (run(input), fast::desk(input));
     if got == expected {
         return got;
     }
@@ -101,7 +101,7 @@ fn the_vectors_agree() {
     let (input, output) = (read("desk.in"), read("desk.out"));
     assert!(run(&input) == output, "the program differs from desk.out");
     assert!(
-        reference::desk(&input) == output,
+        fast::desk(&input) == output,
         "the plain desk differs from desk.out"
     );
 }
@@ -111,7 +111,7 @@ fn pieces_agree() {
     for seed in 41..45 {
         let mut random = Random(seed);
         let input = stream(&mut random, STREAM);
-        let (mut desk, mut out) = (reference::Desk::new(), Vec::new());
+        let (mut desk, mut out) = (fast::Desk::new(), Vec::new());
         let mut rest = &input[..];
         while !rest.is_empty() {
             let most = random.pick(&[1, 2, 100, 5_000, 30_000]);
@@ -120,6 +120,6 @@ fn pieces_agree() {
             rest = tail;
         }
         desk.finish(&mut out);
-        assert!(out == reference::desk(&input), "seed {seed}");
+        assert!(out == fast::desk(&input), "seed {seed}");
     }
 }

@@ -12,7 +12,7 @@ mod rows;
 use bgp_policy::{Candidate, Session, OWN_ROUTE};
 use inputs::seeded;
 use policy_tests::generate::Random;
-use policy_tests::{desk_program, reference};
+use policy_tests::{desk_program, fast};
 use rows::{print, Table};
 use std::hint::black_box;
 use std::process::ExitCode;
@@ -69,7 +69,7 @@ macro_rules! both {
             stringify!($name),
             $size,
             |$out| bgp_policy::$name($(black_box($argument)),+),
-            |$out| reference::$name($(black_box($argument)),+),
+            |$out| fast::$name($(black_box($argument)),+),
         )
     };
 }

@@ -1,7 +1,7 @@
 //! The desk program beside the Rust desk: two programs that read the same file and write the same bytes.
 use crate::inputs;
 use policy_tests::desk_program;
-use policy_tests::reference::Desk;
+use policy_tests::fast::Desk;
 use std::fs::{remove_file, File};
 use std::io::{self, Read, Write};
 use std::os::fd::AsFd;

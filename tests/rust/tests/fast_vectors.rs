@@ -1,7 +1,7 @@
 //! Every line of ../vectors but the desk's and the chains', through the plain implementation.
 use bgp_policy::{table, Candidate, Offer, Session, BLOCK_MAX};
 use policy_tests::lines::{bytes, every, number, optional, Compared};
-use policy_tests::{counterpart, reference};
+use policy_tests::{counterpart, fast};
 
 // The arguments of a line, and whether answer, number beside it and result are those after `=>`.
 fn compare(fields: &[&str], told: impl Fn(&[&str]) -> (u8, usize, String)) -> Compared {
@@ -43,14 +43,14 @@ fn session(f: &[&str], mode: &str) -> Session {
 
 fn open(fields: &[&str]) -> Compared {
     compare(fields, |f| {
-        plain(reference::open(number(f[0]), number(f[1]), &bytes(f[2])))
+        plain(fast::open(number(f[0]), number(f[1]), &bytes(f[2])))
     })
 }
 
 fn receive(fields: &[&str]) -> Compared {
     compare(fields, |f| {
         let (session, block) = (session(f, "1"), bytes(f[4]));
-        stored(f[3], |out| reference::receive(session, &block, out))
+        stored(f[3], |out| fast::receive(session, &block, out))
     })
 }
 
@@ -58,9 +58,7 @@ fn send(fields: &[&str]) -> Compared {
     compare(fields, |f| {
         let (session, block) = (session(f, f[3]), bytes(f[7]));
         let (source, state) = (number(f[4]), number(f[5]));
-        stored(f[6], |out| {
-            reference::send(session, source, state, &block, out)
-        })
+        stored(f[6], |out| fast::send(session, source, state, &block, out))
     })
 }
 
@@ -68,14 +66,12 @@ fn state(fields: &[&str]) -> Compared {
     compare(fields, |f| {
         let (length, prefix, own_as) = (number(f[0]), number(f[1]), number(f[2]));
         let (table, block) = (bytes(f[3]), bytes(f[4]));
-        plain(reference::origin_state(
-            length, prefix, own_as, &table, &block,
-        ))
+        plain(fast::origin_state(length, prefix, own_as, &table, &block))
     })
 }
 
 fn tag(fields: &[&str]) -> Compared {
-    compare(fields, |f| plain(reference::received_tag(&bytes(f[0]))))
+    compare(fields, |f| plain(fast::received_tag(&bytes(f[0]))))
 }
 
 fn offer(text: &str) -> Offer {
@@ -93,7 +89,7 @@ fn choose(fields: &[&str]) -> Compared {
     compare(fields, |f| {
         let offers: Vec<Offer> = f[3].split(',').filter(|o| *o != ".").map(offer).collect();
         let (mode, client) = (number(f[0]), number(f[1]));
-        let (answer, beside, left) = reference::choose(mode, client, &bytes(f[2]), &table(&offers));
+        let (answer, beside, left) = fast::choose(mode, client, &bytes(f[2]), &table(&offers));
         (answer, beside, format!("{beside},{left}"))
     })
 }
@@ -107,7 +103,7 @@ fn better(fields: &[&str]) -> Compared {
             identifier: number(f[4 * i + 2]),
             address: number(f[4 * i + 3]),
         };
-        plain(reference::better(candidate(0), candidate(1)))
+        plain(fast::better(candidate(0), candidate(1)))
     })
 }
 

@@ -1,5 +1,5 @@
-//! Document 01 in plain Rust, independent of the proved library: the same functions over the same types, to compare it with and
-//! to measure it against.
+//! Document 01 in the best plain Rust that we can write: the same functions as the proved library's, over the same types, to
+//! measure it against and to compare it with.
 mod block;
 mod choice;
 mod desk;
