@@ -148,7 +148,12 @@ pub fn block(random: &mut Random) -> Vec<u8> {
 
 /// A readable block of exactly `length` bytes, which are enough for it: one more attribute fills it at any place.
 pub fn block_of_length(random: &mut Random, length: usize) -> Vec<u8> {
-    let mut list = attributes(random);
+    let list = attributes(random);
+    filled(random, list, length)
+}
+
+/// The block of these attributes and of one more, which fills it to `length` bytes if these are enough.
+pub fn filled(random: &mut Random, mut list: Vec<Attribute>, length: usize) -> Vec<u8> {
     let size = encode(&list).len() + 4;
     let value = vec![0x5A; length.saturating_sub(size)];
     let filler = Attribute {

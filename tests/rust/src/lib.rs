@@ -1,8 +1,11 @@
 //! What the tests of the proved library share: bytes and hex, buffers to be compared to their end, the lines of ../vectors.
 
+pub mod chain;
 pub mod fast;
 pub mod generate;
 pub mod lines;
+pub mod reference;
+pub mod sides;
 pub mod stream;
 pub mod tables;
 

@@ -1,12 +1,14 @@
 //! The lines of ../vectors, whose README says what they hold.
 use crate::hex;
+use crate::sides::{Side, SIDES};
 use std::path::Path;
 
 /// The result of a line: nothing, or how it differs.
 pub type Compared = Result<(), String>;
 
-/// The lines of one kind in one file, each handed to `compare` as its fields after the kind. All differing lines are told.
-pub fn every(file: &str, kind: &str, compare: fn(&[&str]) -> Compared) {
+/// The lines of one kind in one file, each handed to `compare` as its fields after the kind, with each implementation. All
+/// differing lines are told.
+pub fn every(file: &str, kind: &str, compare: fn(&Side, &[&str]) -> Compared) {
     let path = Path::new(env!("CARGO_MANIFEST_DIR"))
         .join("../vectors")
         .join(file);
@@ -19,18 +21,21 @@ pub fn every(file: &str, kind: &str, compare: fn(&[&str]) -> Compared) {
             continue;
         }
         ran += 1;
-        if let Err(how) = compare(&fields[1..]) {
-            differing.push(format!("{file}:{}: {how}", number + 1));
+        for side in SIDES {
+            if let Err(how) = compare(&side, &fields[1..]) {
+                differing.push(format!("{file}:{}: {}: {how}", number + 1, side.name));
+            }
         }
     }
     println!(
-        "{file}: {ran} lines of kind {kind}, {} differ",
+        "{file}: {ran} lines of kind {kind} at {} implementations, {} differ",
+        SIDES.len(),
         differing.len()
     );
     assert!(ran > 0, "{file} has no line of kind {kind}");
     assert!(
         differing.is_empty(),
-        "{} of {ran} lines differ:\n{}",
+        "{} results differ:\n{}",
         differing.len(),
         differing.join("\n")
     );

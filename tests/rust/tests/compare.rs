@@ -1,13 +1,14 @@
-//! Receipt and sending: the proved library and the plain implementation agree over seeded inputs, buffers to their end.
+//! Receipt and sending: the library, the reference and fast Rust agree over seeded inputs, buffers to their end.
 use bgp_policy::{Session, BLOCK_MAX, OWN_ROUTE};
 use policy_tests::generate::{
     attributes, block, block_of_length, communities, damaged, encode, faulty_block, Attribute,
     Random, ASNS,
 };
+use policy_tests::sides::{agree, Side, Stored, LIBRARY};
 use policy_tests::tables::Tally;
-use policy_tests::{fast, patterns, shown};
+use policy_tests::{patterns, shown};
 
-const ROUNDS: usize = 20_000;
+const ROUNDS: usize = 60_000;
 
 // A call of either function.
 #[derive(Clone, Copy, Debug)]
@@ -17,38 +18,24 @@ enum Call {
 }
 
 impl Call {
-    fn library(self, block: &[u8], out: &mut [u8]) -> (u8, usize) {
+    fn at(self, side: &Side, block: &[u8], out: &mut [u8]) -> (u8, usize) {
         match self {
-            Call::Receive(session) => bgp_policy::receive(session, block, out),
-            Call::Send(session, source, state) => {
-                bgp_policy::send(session, source, state, block, out)
-            }
-        }
-    }
-
-    fn plain(self, block: &[u8], out: &mut [u8]) -> (u8, usize) {
-        match self {
-            Call::Receive(session) => fast::receive(session, block, out),
-            Call::Send(session, source, state) => fast::send(session, source, state, block, out),
+            Call::Receive(session) => (side.receive)(session, block, out),
+            Call::Send(session, source, state) => (side.send)(session, source, state, block, out),
         }
     }
 }
 
 // One call in both patterns of a buffer of `cap` bytes.
-fn agree(call: Call, block: &[u8], cap: usize, tally: &mut Tally) -> (u8, usize) {
-    let mut told = (0, 0);
-    for before in patterns(cap) {
-        let (mut out, mut expected) = (before.clone(), before);
-        told = call.plain(block, &mut expected);
-        let got = call.library(block, &mut out);
-        assert!(
-            got == told && out == expected,
-            "{call:?}, buffer {cap}, block {}: library {got:?} {}, plain {told:?} {}",
-            shown(block),
-            shown(&out),
-            shown(&expected)
-        );
-    }
+fn agree_in(call: Call, block: &[u8], cap: usize, tally: &mut Tally) -> (u8, usize) {
+    let [told, again] = patterns(cap).map(|before| {
+        let run = |side: &Side| Stored::by(&before, |out| call.at(side, block, out));
+        agree(run, || {
+            format!("{call:?}, buffer {cap}, block {}", shown(block))
+        })
+        .told
+    });
+    assert_eq!(told, again, "{call:?}: what a buffer held counts");
     let (answer, beside) = told;
     tally.add(answer, if answer == 0 { 0 } else { beside });
     told
@@ -56,14 +43,14 @@ fn agree(call: Call, block: &[u8], cap: usize, tally: &mut Tally) -> (u8, usize)
 
 // One call in an ample buffer, then in buffers of the sizes that matter to its answer.
 fn agree_in_sizes(random: &mut Random, call: Call, block: &[u8], tally: &mut Tally) {
-    let (answer, length) = agree(call, block, BLOCK_MAX + random.below(900), tally);
+    let (answer, length) = agree_in(call, block, BLOCK_MAX + random.below(900), tally);
     if answer == 0 {
         for cap in length - 2..=length + 2 {
-            agree(call, block, cap, tally);
+            agree_in(call, block, cap, tally);
         }
-        agree(call, block, random.below(length), tally);
+        agree_in(call, block, random.below(length), tally);
     } else {
-        agree(call, block, random.pick(&[0, 1, BLOCK_MAX]), tally);
+        agree_in(call, block, random.pick(&[0, 1, BLOCK_MAX]), tally);
     }
 }
 
@@ -147,7 +134,7 @@ fn every_size(random: &mut Random, call: fn(&mut Random) -> Call, tally: &mut Ta
     for _ in 0..100 {
         let (call, block) = (call(random), block(random));
         for cap in 0..(block.len() + 20).min(400) {
-            agree(call, &block, cap, tally);
+            agree_in(call, &block, cap, tally);
         }
     }
 }
@@ -185,7 +172,7 @@ fn a_sent_block_is_received_alike() {
     for _ in 0..ROUNDS {
         let (call, block) = (sending(&mut random), block(&mut random));
         let mut sent = vec![0; BLOCK_MAX];
-        let (0, length) = call.library(&block, &mut sent) else {
+        let (0, length) = call.at(&LIBRARY, &block, &mut sent) else {
             continue;
         };
         let call = receipt(&mut random);

@@ -1,11 +1,12 @@
-//! Opening, origin state, received tag, choosing and comparing two: the proved library and the plain implementation agree over
-//! seeded inputs.
+//! Opening, origin state, received tag, choosing and comparing two: the library, the reference and fast Rust agree over seeded
+//! inputs.
 use bgp_policy::{table, Candidate, Offer};
 use policy_tests::generate::{block, block_of_length, damaged, faulty_block, Random, ASNS};
+use policy_tests::sides::agree;
 use policy_tests::tables::{parameters, parameters_of_length, prefix, vrp, Tally};
-use policy_tests::{counterpart, fast, shown};
+use policy_tests::{counterpart, shown};
 
-const ROUNDS: usize = 40_000;
+const ROUNDS: usize = 120_000;
 
 const FAULTS: [(u8, usize); 6] = [(3, 1), (3, 2), (3, 3), (3, 4), (3, 5), (3, 6)];
 
@@ -34,14 +35,14 @@ fn agree_on_open(random: &mut Random, parameters: &[u8], role: u8, tally: &mut T
         0 => random.pick(&[2, 255]),
         _ => random.below(2) as u8,
     };
-    let plain = fast::open(local_role, strict, parameters);
-    let library = bgp_policy::open(local_role, strict, parameters);
-    assert!(
-        library == plain,
-        "role {local_role}, strict {strict}, parameters {}: library {library:?}, plain {plain:?}",
-        shown(parameters)
+    let (answer, beside) = agree(
+        |side| (side.open)(local_role, strict, parameters),
+        || {
+            let parameters = shown(parameters);
+            format!("role {local_role}, strict {strict}, parameters {parameters}")
+        },
     );
-    tally.add(plain.0, plain.1);
+    tally.add(answer, beside);
 }
 
 #[test]
@@ -73,16 +74,15 @@ fn agree_on_state(random: &mut Random, table: &[u8], block: &[u8], tally: &mut T
     };
     let own_as = random.pick(&[ASNS[0], ASNS[1], ASNS[3], 7, 8, 9, 10, 11, 12, 0]);
     let prefix = prefix(random);
-    let plain = fast::origin_state(length, prefix, own_as, table, block);
-    let library = bgp_policy::origin_state(length, prefix, own_as, table, block);
-    assert!(
-        library == plain,
-        "{prefix:08X}/{length}, own AS {own_as}, table {}, block {}: library {library:?}, plain {plain:?}",
-        shown(table),
-        shown(block)
+    let (answer, beside) = agree(
+        |side| (side.origin_state)(length, prefix, own_as, table, block),
+        || {
+            let (table, block) = (shown(table), shown(block));
+            format!("{prefix:08X}/{length}, own AS {own_as}, table {table}, block {block}")
+        },
     );
     // Of a bad record only the answer is counted.
-    tally.add(plain.0, if plain.0 == 9 { 0 } else { plain.1 });
+    tally.add(answer, if answer == 9 { 0 } else { beside });
 }
 
 #[test]
@@ -115,14 +115,8 @@ fn received_tag_agrees() {
     let (mut random, mut tally) = (Random(13), Tally::default());
     for _ in 0..ROUNDS {
         let block = some_block(&mut random);
-        let plain = fast::received_tag(&block);
-        let library = bgp_policy::received_tag(&block);
-        assert!(
-            library == plain,
-            "block {}: library {library:?}, plain {plain:?}",
-            shown(&block)
-        );
-        tally.add(plain.0, plain.1);
+        let (answer, beside) = agree(|side| (side.received_tag)(&block), || shown(&block));
+        tally.add(answer, beside);
     }
     let expected = [(0, 0), (0, 1), (0, 2), (0, 3), (6, 0)];
     tally.check("received_tag", &[&expected[..], &FAULTS].concat());
@@ -163,15 +157,14 @@ fn agree_on_choice(random: &mut Random, buffer: &[u8], candidates: &[u8], tally:
         _ => random.below(4) as u8,
     };
     let client = random.pick(&[1, 2, 9]);
-    let plain = fast::choose(mode, client, buffer, candidates);
-    let library = bgp_policy::choose(mode, client, buffer, candidates);
-    assert!(
-        library == plain,
-        "mode {mode}, client {client}, buffer {}, candidates {}: library {library:?}, plain {plain:?}",
-        shown(buffer),
-        shown(candidates)
+    let (answer, _, _) = agree(
+        |side| (side.choose)(mode, client, buffer, candidates),
+        || {
+            let (buffer, candidates) = (shown(buffer), shown(candidates));
+            format!("mode {mode}, client {client}, buffer {buffer}, candidates {candidates}")
+        },
     );
-    tally.add(plain.0, 0);
+    tally.add(answer, 0);
 }
 
 #[test]
@@ -216,13 +209,11 @@ fn comparing_two_agrees() {
         // Every third pair has the same block, so that identifier, address and index decide.
         let second = if round % 3 == 0 { 0 } else { 1 };
         let (first, second) = (candidate(&blocks[0]), candidate(&blocks[second]));
-        let plain = fast::better(first, second);
-        let library = bgp_policy::better(first, second);
-        assert!(
-            library == plain,
-            "{first:X?}, {second:X?}: library {library:?}, plain {plain:?}"
+        let (answer, beside) = agree(
+            |side| (side.better)(first, second),
+            || format!("{first:X?}, {second:X?}"),
         );
-        tally.add(plain.0, plain.1);
+        tally.add(answer, beside);
     }
     tally.check("better", &[(0, 0), (0, 1), (10, 0), (10, 1)]);
 }

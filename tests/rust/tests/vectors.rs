@@ -1,10 +1,9 @@
-//! Every line of ../vectors but the desk's, through the library: the answer, the number beside it, and the output buffer to its
-//! end.
-use bgp_policy::{
-    better, choose, open, origin_state, receive, received_tag, send, table, Candidate, Offer,
-    Session, BLOCK_MAX, OWN_ROUTE,
-};
+//! Every line of ../vectors but the desk's, through the library, the reference and fast Rust: the answer, the number beside it,
+//! and the output buffer to its end.
+use bgp_policy::{table, Candidate, Offer, Session, BLOCK_MAX};
+use policy_tests::chain::{end, run, End, Hop};
 use policy_tests::lines::{bytes, every, number, optional, Compared};
+use policy_tests::sides::Side;
 use policy_tests::{counterpart, expected_buffer, patterns, shown};
 
 // One call in each of two buffers of `cap` bytes, against the three fields after `=>`: answer, number beside it, block stored.
@@ -56,34 +55,35 @@ fn told(expected: &[&str], got: (u8, usize)) -> Compared {
 }
 
 // open: local role, strict, parameters; result: remote role
-fn open_line(fields: &[&str]) -> Compared {
+fn open_line(side: &Side, fields: &[&str]) -> Compared {
     let &[local_role, strict, parameters, "=>", ..] = fields else {
         panic!("not the fields of open: {fields:?}");
     };
-    let got = open(number(local_role), number(strict), &bytes(parameters));
+    let parameters = bytes(parameters);
+    let got = (side.open)(number(local_role), number(strict), &parameters);
     told(&fields[4..], got)
 }
 
 // state: prefix length, prefix, own AS, table, block; result: state
-fn state_line(fields: &[&str]) -> Compared {
+fn state_line(side: &Side, fields: &[&str]) -> Compared {
     let &[length, prefix, own_as, table, block, "=>", ..] = fields else {
         panic!("not the fields of state: {fields:?}");
     };
     let (length, prefix, own_as) = (number(length), number(prefix), number(own_as));
-    let got = origin_state(length, prefix, own_as, &bytes(table), &bytes(block));
+    let got = (side.origin_state)(length, prefix, own_as, &bytes(table), &bytes(block));
     told(&fields[6..], got)
 }
 
 // tag: block; result: state
-fn tag_line(fields: &[&str]) -> Compared {
+fn tag_line(side: &Side, fields: &[&str]) -> Compared {
     let &[block, "=>", ..] = fields else {
         panic!("not the fields of tag: {fields:?}");
     };
-    told(&fields[2..], received_tag(&bytes(block)))
+    told(&fields[2..], (side.received_tag)(&bytes(block)))
 }
 
 // recv: local AS, remote AS, remote role, cap, block
-fn recv_line(fields: &[&str]) -> Compared {
+fn recv_line(side: &Side, fields: &[&str]) -> Compared {
     let &[local_as, remote_as, remote_role, cap, block, "=>", ..] = fields else {
         panic!("not the fields of recv: {fields:?}");
     };
@@ -94,11 +94,13 @@ fn recv_line(fields: &[&str]) -> Compared {
         mode: 1,
     };
     let block = bytes(block);
-    call(cap, &fields[6..], |out| receive(session, &block, out))
+    call(cap, &fields[6..], |out| {
+        (side.receive)(session, &block, out)
+    })
 }
 
 // send: local AS, remote AS, remote role, mode, source, state, cap, block
-fn send_line(fields: &[&str]) -> Compared {
+fn send_line(side: &Side, fields: &[&str]) -> Compared {
     let &[local_as, remote_as, remote_role, mode, source, state, cap, block, "=>", ..] = fields
     else {
         panic!("not the fields of send: {fields:?}");
@@ -111,12 +113,12 @@ fn send_line(fields: &[&str]) -> Compared {
     };
     let (source, state, block) = (number(source), number(state), bytes(block));
     call(cap, &fields[9..], |out| {
-        send(session, source, state, &block, out)
+        (side.send)(session, source, state, &block, out)
     })
 }
 
 // choose: mode, client, buffer, `start:length:state:identifier:address,..`; result: index, how many were left
-fn choose_line(fields: &[&str]) -> Compared {
+fn choose_line(side: &Side, fields: &[&str]) -> Compared {
     let &[mode, client, buffer, offers, "=>", answer, beside, result] = fields else {
         panic!("not the fields of choose: {fields:?}");
     };
@@ -129,12 +131,8 @@ fn choose_line(fields: &[&str]) -> Compared {
         (0, Some((index, left))) => (number(index), number(left)),
         _ => (optional(beside).unwrap_or(0), 0),
     };
-    let got = choose(
-        number(mode),
-        number(client),
-        &bytes(buffer),
-        &table(&offers),
-    );
+    let (mode, client, buffer) = (number(mode), number(client), bytes(buffer));
+    let got = (side.choose)(mode, client, &buffer, &table(&offers));
     if got != (answer, beside, left) {
         return Err(format!(
             "answered {got:?}, expected {:?}",
@@ -159,7 +157,7 @@ fn offer(text: &str) -> Offer {
 }
 
 // better: block, state, identifier, address, of each of two candidates; result: index of the winner
-fn better_line(fields: &[&str]) -> Compared {
+fn better_line(side: &Side, fields: &[&str]) -> Compared {
     let &[a, s, i, d, b, t, j, e, "=>", ..] = fields else {
         panic!("not the fields of better: {fields:?}");
     };
@@ -176,96 +174,43 @@ fn better_line(fields: &[&str]) -> Compared {
         identifier: number(j),
         address: number(e),
     };
-    told(&fields[9..], better(first, second))
+    told(&fields[9..], (side.better)(first, second))
 }
 
-// How a chain ends.
-#[derive(Debug, PartialEq)]
-enum End {
-    Arrived {
-        block: Vec<u8>,
-    },
-    Stopped {
-        hop: usize,
-        call: String,
-        answer: u8,
-        beside: usize,
-    },
-}
-
-// A chain: each call is handed exactly the bytes that the one before it stored. The buffers have held `fill` before.
-fn chain(block: &[u8], hops: &str, fill: &[u8]) -> End {
-    let mut block = block.to_vec();
-    let mut source = OWN_ROUTE;
-    let hops = if hops == "." {
-        Vec::new()
-    } else {
-        hops.split(',').collect()
+// A hop: `sender:receiver:sender's role:mode:state`
+fn hop(text: &str) -> Hop {
+    let parts: Vec<&str> = text.split(':').collect();
+    let &[sender, receiver, role, mode, state] = &parts[..] else {
+        panic!("not the parts of a hop: {text}");
     };
-    for (hop, text) in hops.iter().enumerate() {
-        let parts: Vec<&str> = text.split(':').collect();
-        let &[sender, receiver, role, mode, state] = &parts[..] else {
-            panic!("not the parts of a hop: {text}");
-        };
-        let (sender, receiver, role, mode) =
-            (number(sender), number(receiver), number(role), number(mode));
-        let sending = Session {
-            local_as: sender,
-            remote_as: receiver,
-            local_role: role,
-            mode,
-        };
-        let receiving = Session {
-            local_as: receiver,
-            remote_as: sender,
-            local_role: counterpart(role),
-            mode,
-        };
-
-        let mut out = fill.to_vec();
-        let (answer, beside) = send(sending, source, number(state), &block, &mut out);
-        if answer != 0 {
-            return End::Stopped {
-                hop,
-                call: "send".into(),
-                answer,
-                beside,
-            };
-        }
-        let mut arrived = fill.to_vec();
-        let (answer, beside) = receive(receiving, &out[..beside], &mut arrived);
-        if answer != 0 {
-            return End::Stopped {
-                hop,
-                call: "recv".into(),
-                answer,
-                beside,
-            };
-        }
-        block = arrived[..beside].to_vec();
-        source = role;
-    }
-    End::Arrived { block }
+    let ends = [number(sender), number(receiver)];
+    Hop::new(ends, number(role), [number(mode); 2], number(state))
 }
 
 // chain: block, hops => arrived, hop, call, answer, number beside it, block on arrival
-fn chain_line(fields: &[&str]) -> Compared {
-    let &[block, hops, "=>", arrived, hop, call, answer, beside, on_arrival] = fields else {
+fn chain_line(side: &Side, fields: &[&str]) -> Compared {
+    let &[block, hops, "=>", arrived, at, call, answer, beside, on_arrival] = fields else {
         panic!("not the fields of chain: {fields:?}");
     };
+    let block = bytes(block);
+    let hops: Vec<Hop> = match hops {
+        "." => Vec::new(),
+        _ => hops.split(',').map(hop).collect(),
+    };
     let expected = match arrived {
-        "1" => End::Arrived {
-            block: bytes(on_arrival),
-        },
+        "1" => End::Arrived(bytes(on_arrival)),
         _ => End::Stopped {
-            hop: number(hop),
-            call: call.into(),
-            answer: number(answer),
-            beside: optional(beside).unwrap_or(0),
+            hop: number(at),
+            call: match call {
+                "send" => "send",
+                "recv" => "recv",
+                other => panic!("'{other}' is no call"),
+            },
+            told: (number(answer), optional(beside).unwrap_or(0)),
         },
     };
     for fill in patterns(BLOCK_MAX) {
-        let got = chain(&bytes(block), hops, &fill);
+        let got = end(&block, &run(side, &block, &hops, || fill.clone()));
         if got != expected {
             return Err(format!("{got:X?}, expected {expected:X?}"));
         }
@@ -273,72 +218,29 @@ fn chain_line(fields: &[&str]) -> Compared {
     Ok(())
 }
 
-#[test]
-fn functions_open() {
-    every("functions.tsv", "open", open_line);
+// A test for the lines of one kind in one file.
+macro_rules! lines {
+    ($($test:ident: $file:literal, $kind:literal, $compare:ident;)+) => {
+        $(#[test]
+        fn $test() {
+            every($file, $kind, $compare);
+        })+
+    };
 }
 
-#[test]
-fn functions_recv() {
-    every("functions.tsv", "recv", recv_line);
-}
-
-#[test]
-fn functions_send() {
-    every("functions.tsv", "send", send_line);
-}
-
-#[test]
-fn functions_chain() {
-    every("functions.tsv", "chain", chain_line);
-}
-
-#[test]
-fn functions_state() {
-    every("functions.tsv", "state", state_line);
-}
-
-#[test]
-fn functions_tag() {
-    every("functions.tsv", "tag", tag_line);
-}
-
-#[test]
-fn functions_choose() {
-    every("functions.tsv", "choose", choose_line);
-}
-
-#[test]
-fn functions_better() {
-    every("functions.tsv", "better", better_line);
-}
-
-#[test]
-fn boundary_state() {
-    every("boundary.tsv", "state", state_line);
-}
-
-#[test]
-fn boundary_tag() {
-    every("boundary.tsv", "tag", tag_line);
-}
-
-#[test]
-fn boundary_open() {
-    every("boundary.tsv", "open", open_line);
-}
-
-#[test]
-fn boundary_recv() {
-    every("boundary.tsv", "recv", recv_line);
-}
-
-#[test]
-fn boundary_send() {
-    every("boundary.tsv", "send", send_line);
-}
-
-#[test]
-fn chains_chain() {
-    every("chains.tsv", "chain", chain_line);
+lines! {
+    functions_open: "functions.tsv", "open", open_line;
+    functions_recv: "functions.tsv", "recv", recv_line;
+    functions_send: "functions.tsv", "send", send_line;
+    functions_chain: "functions.tsv", "chain", chain_line;
+    functions_state: "functions.tsv", "state", state_line;
+    functions_tag: "functions.tsv", "tag", tag_line;
+    functions_choose: "functions.tsv", "choose", choose_line;
+    functions_better: "functions.tsv", "better", better_line;
+    boundary_state: "boundary.tsv", "state", state_line;
+    boundary_tag: "boundary.tsv", "tag", tag_line;
+    boundary_open: "boundary.tsv", "open", open_line;
+    boundary_recv: "boundary.tsv", "recv", recv_line;
+    boundary_send: "boundary.tsv", "send", send_line;
+    chains_chain: "chains.tsv", "chain", chain_line;
 }

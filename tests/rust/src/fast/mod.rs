@@ -1,5 +1,5 @@
 //! Document 01 in the best plain Rust that we can write: the same functions as the proved library's, over the same types, to
-//! measure it against and to compare it with.
+//! measure it against. The tests hold both to `reference`.
 mod block;
 mod choice;
 mod desk;

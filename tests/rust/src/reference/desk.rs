@@ -1,0 +1,138 @@
+//! "The desk program": its whole output for a whole input.
+use super::block::read;
+use super::input::Input;
+use super::opening::opened;
+use super::origin::{origin, state, vrp, Vrp, VRP_SIZE};
+use super::passing::{received, sent};
+use super::{check_session, demand, Refusal};
+use super::{BAD_VRP, BLOCK_MAX, DONE, OUT_OF_RANGE, TOO_LONG, UNREADABLE, VRPS_MAX};
+use bgp_policy::Session;
+
+/// The most digits of a readable line.
+const DIGITS_MAX: usize = 8_192;
+
+/// What stays from line to line.
+struct Desk {
+    session: Option<Session>,
+    vrps: Vec<Vrp>,
+}
+
+/// "Output a line: line number (from 1) and answer number in decimal, then upper-case hex or "-"."
+pub fn desk(input: &[u8]) -> Vec<u8> {
+    let mut desk = Desk {
+        session: None,
+        vrps: Vec::new(),
+    };
+    let mut output = String::new();
+    for (index, line) in lines(input).iter().enumerate() {
+        let (answer, result) = match desk.line(line) {
+            Ok(result) => (DONE, result),
+            Err((answer, _)) => (answer, Vec::new()),
+        };
+        let mut shown: String = result.iter().map(|byte| format!("{byte:02X}")).collect();
+        if result.is_empty() {
+            shown.push('-');
+        }
+        output += &format!("{} {answer} {shown}\n", index + 1);
+    }
+    output.into_bytes()
+}
+
+/// "Lines end at a line feed or the end of input; nothing after the last line feed is no line."
+fn lines(input: &[u8]) -> Vec<&[u8]> {
+    let mut lines: Vec<&[u8]> = input.split(|byte| *byte == b'\n').collect();
+    if lines.last().is_some_and(|last| last.is_empty()) {
+        lines.pop();
+    }
+    lines
+}
+
+/// The bytes of a line; none if it is "empty or odd", "over 8,192 digits", or has a "bad digit".
+fn decode(line: &[u8]) -> Option<Vec<u8>> {
+    if line.is_empty() || line.len() % 2 == 1 || line.len() > DIGITS_MAX {
+        return None;
+    }
+    let digits: Option<Vec<u32>> = line.iter().map(|b| char::from(*b).to_digit(16)).collect();
+    let pairs = digits?;
+    let bytes = pairs.chunks(2).map(|pair| (16 * pair[0] + pair[1]) as u8);
+    Some(bytes.collect())
+}
+
+impl Desk {
+    /// The result of a line.
+    fn line(&mut self, line: &[u8]) -> Result<Vec<u8>, Refusal> {
+        let frame = decode(line).ok_or(UNREADABLE)?;
+        let rest = &frame[1..];
+        match frame[0] {
+            0x01 => self.open(rest),
+            0x02 => self.receive(rest),
+            0x03 => self.send(rest),
+            0x04 => self.add_vrp(rest),
+            _ => Err(UNREADABLE),
+        }
+    }
+
+    /// "01 session (local AS, remote AS, local role, strict, mode, OPEN parameters)"; what "is not answered 0 [..] leaves no
+    /// session".
+    fn open(&mut self, frame: &[u8]) -> Result<Vec<u8>, Refusal> {
+        self.session = None;
+        let (session, strict, parameters) = session_frame(frame).ok_or(UNREADABLE)?;
+        check_session(session)?;
+        let remote_role = opened(session.local_role, strict, parameters)?;
+        self.session = Some(session);
+        Ok(vec![remote_role])
+    }
+
+    /// "02 receipt (prefix length, prefix, block)"; "Validation comes after the receipt verdict, with the local AS as own."
+    fn receive(&self, frame: &[u8]) -> Result<Vec<u8>, Refusal> {
+        let (length, prefix, block) = receipt_frame(frame).ok_or(UNREADABLE)?;
+        let session = self.session.ok_or(UNREADABLE)?;
+        demand(length <= 32, OUT_OF_RANGE)?;
+        let stored = received(session, block, BLOCK_MAX)?;
+        let origin = origin(&read(block)?, session.local_as);
+        let state = state(length, prefix, origin, &self.vrps);
+        Ok([vec![state], stored].concat())
+    }
+
+    /// "03 sending (source, state, block)".
+    fn send(&self, frame: &[u8]) -> Result<Vec<u8>, Refusal> {
+        let (source, state, block) = sending_frame(frame).ok_or(UNREADABLE)?;
+        let session = self.session.ok_or(UNREADABLE)?;
+        sent(session, source, state, block, BLOCK_MAX)
+    }
+
+    /// "04 one VRP". "A 04 frame of more than 11 bytes is 6"; "VRPs stay; one more than 4,096 is 6."
+    fn add_vrp(&mut self, record: &[u8]) -> Result<Vec<u8>, Refusal> {
+        demand(record.len() >= VRP_SIZE, UNREADABLE)?;
+        demand(record.len() <= VRP_SIZE, TOO_LONG)?;
+        demand(self.vrps.len() < VRPS_MAX, TOO_LONG)?;
+        self.vrps.push(vrp(record).ok_or((BAD_VRP, 0))?);
+        Ok(Vec::new())
+    }
+}
+
+/// A session, strict, and the parameters; none if the frame is short.
+fn session_frame(frame: &[u8]) -> Option<(Session, u8, &[u8])> {
+    let mut input = Input(frame);
+    let (local_as, remote_as) = (input.number(4)?, input.number(4)?);
+    let (local_role, strict, mode) = (input.byte()?, input.byte()?, input.byte()?);
+    let session = Session {
+        local_as,
+        remote_as,
+        local_role,
+        mode,
+    };
+    Some((session, strict, input.0))
+}
+
+/// Prefix length, prefix and block; none if the frame is short.
+fn receipt_frame(frame: &[u8]) -> Option<(u8, u32, &[u8])> {
+    let mut input = Input(frame);
+    Some((input.byte()?, input.number(4)?, input.0))
+}
+
+/// Source, state and block; none if the frame is short.
+fn sending_frame(frame: &[u8]) -> Option<(u8, u8, &[u8])> {
+    let mut input = Input(frame);
+    Some((input.byte()?, input.byte()?, input.0))
+}

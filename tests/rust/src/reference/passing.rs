@@ -1,0 +1,138 @@
+//! "Receipt" and "Sending".
+use super::block::{communities_of, encode, is_tag, otc_of, read, Attribute};
+use super::block::{COMMUNITIES, LONG, OTC};
+use super::{check_session, counterpart, demand, mode_meant, Refusal};
+use super::{BLOCK_MAX, DONE, INELIGIBLE, NO_ROOM, OUT_OF_RANGE, TOO_LONG, WITHHELD};
+use super::{CUSTOMER, DROP_INVALID, INVALID, PEER, PROVIDER, RS, RS_CLIENT, UNAVAILABLE};
+use bgp_policy::Session;
+
+/// The source of an own route.
+const OWN_ROUTE: u8 = 255;
+
+/// What receipt answers, and the number beside it; on answer 0 the block is in `out`, and its length beside.
+pub fn receive(session: Session, block: &[u8], out: &mut [u8]) -> (u8, usize) {
+    store(received(session, block, out.len()), out)
+}
+
+/// What sending answers, and the number beside it; on answer 0 the block is in `out`, and its length beside.
+pub fn send(session: Session, source: u8, state: u8, block: &[u8], out: &mut [u8]) -> (u8, usize) {
+    store(sent(session, source, state, block, out.len()), out)
+}
+
+/// The block that receipt stores in a buffer of `room` bytes.
+pub fn received(session: Session, block: &[u8], room: usize) -> Result<Vec<u8>, Refusal> {
+    check_session(session)?;
+    demand(block.len() <= BLOCK_MAX, TOO_LONG)?;
+    let mut attributes = read(block)?;
+    let from = counterpart(session.local_role);
+    let otc = otc_of(&attributes);
+    if otc.is_some() && [CUSTOMER, RS_CLIENT].contains(&from) {
+        return Err((INELIGIBLE, 1));
+    }
+    if otc.is_some() && from == PEER && otc != Some(session.remote_as) {
+        return Err((INELIGIBLE, 2));
+    }
+    drop_tags(&mut attributes);
+    if otc.is_none() && [PROVIDER, PEER, RS].contains(&from) {
+        add_otc(&mut attributes, session.remote_as);
+    }
+    fitting(encode(&attributes), room)
+}
+
+/// The block that sending stores in a buffer of `room` bytes.
+pub fn sent(
+    session: Session,
+    source: u8,
+    state: u8,
+    block: &[u8],
+    room: usize,
+) -> Result<Vec<u8>, Refusal> {
+    check_session(session)?;
+    demand(source <= 4 || source == OWN_ROUTE, OUT_OF_RANGE)?;
+    demand(state <= 3, OUT_OF_RANGE)?;
+    demand(block.len() <= BLOCK_MAX, TOO_LONG)?;
+    let mut attributes = read(block)?;
+    let to = counterpart(session.local_role);
+    let otc = otc_of(&attributes);
+    let upwards = [PROVIDER, PEER, RS].contains(&to);
+    if otc.is_some() && upwards {
+        return Err((WITHHELD, 1));
+    }
+    if ![OWN_ROUTE, CUSTOMER].contains(&source) && upwards {
+        return Err((WITHHELD, 2));
+    }
+    if mode_meant(session.mode) == DROP_INVALID && state == INVALID && to == RS_CLIENT {
+        return Err((WITHHELD, 3));
+    }
+    drop_tags(&mut attributes);
+    if to == RS_CLIENT && state != UNAVAILABLE {
+        add_tag(&mut attributes, state);
+    }
+    if otc.is_none() && [CUSTOMER, PEER, RS_CLIENT].contains(&to) {
+        add_otc(&mut attributes, session.local_as);
+    }
+    fitting(encode(&attributes), room)
+}
+
+/// "drop every 43 00 community"; "A communities attribute emptied by dropping goes away whole."
+fn drop_tags(attributes: &mut Vec<Attribute>) {
+    let mut left = communities_of(attributes);
+    left.retain(|community| !is_tag(community));
+    attributes.retain(|attribute| attribute.kind != COMMUNITIES || !left.is_empty());
+    for attribute in attributes {
+        if attribute.kind == COMMUNITIES {
+            attribute.value = left.concat();
+        }
+    }
+}
+
+/// "Tag: 43 00, five zeros, state. It goes last in the communities left; if there are none, as a new C0 10 08 attribute". "Its
+/// length form is kept, save that a short one whose new length passes 255 becomes long."
+fn add_tag(attributes: &mut Vec<Attribute>, state: u8) {
+    let tag = [0x43, 0x00, 0, 0, 0, 0, 0, state];
+    let mut all = attributes.iter_mut();
+    match all.find(|attribute| attribute.kind == COMMUNITIES) {
+        Some(communities) => {
+            communities.value.extend(tag);
+            if communities.value.len() > 255 {
+                communities.flags |= LONG;
+                communities.long = true;
+            }
+        }
+        None => add_attribute(attributes, COMMUNITIES, &tag),
+    }
+}
+
+/// "New OTC: C0 23 04 and four bytes".
+fn add_otc(attributes: &mut Vec<Attribute>, asn: u32) {
+    add_attribute(attributes, OTC, &asn.to_be_bytes());
+}
+
+/// A new C0 attribute "before the first attribute of type above" its own, "else last".
+fn add_attribute(attributes: &mut Vec<Attribute>, kind: u8, value: &[u8]) {
+    let above = attributes.iter().position(|other| other.kind > kind);
+    let new = Attribute {
+        flags: 0xC0,
+        kind,
+        long: false,
+        value: value.to_vec(),
+    };
+    attributes.insert(above.unwrap_or(attributes.len()), new);
+}
+
+/// "Answer 7 is given exactly when the result is longer than the output buffer or than 4,073."
+fn fitting(result: Vec<u8>, room: usize) -> Result<Vec<u8>, Refusal> {
+    demand(result.len() <= room && result.len() <= BLOCK_MAX, NO_ROOM)?;
+    Ok(result)
+}
+
+/// "Only answer 0 stores anything: bytes from the start of the output buffer".
+fn store(result: Result<Vec<u8>, Refusal>, out: &mut [u8]) -> (u8, usize) {
+    match result {
+        Ok(block) => {
+            out[..block.len()].copy_from_slice(&block);
+            (DONE, block.len())
+        }
+        Err(refusal) => refusal,
+    }
+}

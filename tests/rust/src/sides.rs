@@ -1,0 +1,84 @@
+//! The implementations of document 01 that the tests run side by side, under one form.
+use crate::{fast, reference, shown};
+use bgp_policy::{Candidate, Session};
+use std::fmt::{Debug, Formatter};
+
+/// The functions of one implementation.
+#[derive(Clone, Copy)]
+pub struct Side {
+    pub name: &'static str,
+    pub open: fn(u8, u8, &[u8]) -> (u8, usize),
+    pub receive: fn(Session, &[u8], &mut [u8]) -> (u8, usize),
+    pub send: fn(Session, u8, u8, &[u8], &mut [u8]) -> (u8, usize),
+    pub origin_state: fn(u8, u32, u32, &[u8], &[u8]) -> (u8, usize),
+    pub received_tag: fn(&[u8]) -> (u8, usize),
+    pub choose: fn(u8, u32, &[u8], &[u8]) -> (u8, usize, usize),
+    pub better: fn(Candidate, Candidate) -> (u8, usize),
+}
+
+// The functions of a module.
+macro_rules! side {
+    ($name:literal, $module:ident) => {
+        Side {
+            name: $name,
+            open: $module::open,
+            receive: $module::receive,
+            send: $module::send,
+            origin_state: $module::origin_state,
+            received_tag: $module::received_tag,
+            choose: $module::choose,
+            better: $module::better,
+        }
+    };
+}
+
+/// The proved library.
+pub const LIBRARY: Side = side!("the library", bgp_policy);
+/// The plain implementation, which the others are held to.
+pub const REFERENCE: Side = side!("the reference", reference);
+/// The fast implementation, which the benchmark measures beside the library.
+pub const FAST: Side = side!("fast Rust", fast);
+
+pub const SIDES: [Side; 3] = [LIBRARY, REFERENCE, FAST];
+
+/// What a call tells, and the whole buffer that it leaves.
+#[derive(PartialEq)]
+pub struct Stored {
+    pub told: (u8, usize),
+    pub buffer: Vec<u8>,
+}
+
+impl Stored {
+    /// A call with a buffer that held `before`.
+    pub fn by(before: &[u8], call: impl FnOnce(&mut [u8]) -> (u8, usize)) -> Self {
+        let mut buffer = before.to_vec();
+        let told = call(&mut buffer);
+        Stored { told, buffer }
+    }
+
+    /// The block stored; none unless the answer is 0.
+    pub fn block(&self) -> Option<&[u8]> {
+        let (answer, length) = self.told;
+        (answer == 0).then(|| &self.buffer[..length])
+    }
+}
+
+impl Debug for Stored {
+    fn fmt(&self, f: &mut Formatter) -> std::fmt::Result {
+        write!(f, "{:?} with the buffer {}", self.told, shown(&self.buffer))
+    }
+}
+
+/// What a call gives at the reference, and must give at the library and in fast Rust; `inputs` tells what it was handed.
+pub fn agree<T: PartialEq + Debug>(call: impl Fn(&Side) -> T, inputs: impl Fn() -> String) -> T {
+    let expected = call(&REFERENCE);
+    for side in [LIBRARY, FAST] {
+        let (got, name) = (call(&side), side.name);
+        assert!(
+            got == expected,
+            "{}: {name} gives {got:?}, the reference {expected:?}",
+            inputs()
+        );
+    }
+    expected
+}
