@@ -1,45 +1,82 @@
-//! The desk program and the plain desk print the same for seeded line streams, and the plain desk the same in any pieces.
+//! The desk program prints for seeded line streams what the reference and fast Rust print, however the input comes in pieces.
 use policy_tests::generate::Random;
 use policy_tests::stream::{stream, vrps};
-use policy_tests::{desk_program, fast};
+use policy_tests::{desk_program, fast, reference};
 use std::collections::BTreeMap;
 use std::io::Write;
+use std::os::fd::OwnedFd;
+use std::os::unix::net::UnixDatagram;
 use std::path::Path;
 use std::process::{Command, Stdio};
 
 const STREAM: usize = 400_000;
 
-fn run(input: &[u8]) -> Vec<u8> {
-    let mut desk = Command::new(desk_program().expect("the program"))
-        .stdin(Stdio::piped())
+// The program's whole output; `feed` gives it its input meanwhile, so that neither side waits for the other for good.
+fn output_of(stdin: Stdio, feed: impl FnOnce() + Send) -> Vec<u8> {
+    let desk = Command::new(desk_program().expect("the program"))
+        .stdin(stdin)
         .stdout(Stdio::piped())
         .spawn()
         .expect("the desk program starts");
-    let mut stdin = desk.stdin.take().expect("its input is a pipe");
-    // Input and output go on at the same time, so that neither pipe fills up for good.
     let output = std::thread::scope(|scope| {
-        scope.spawn(move || {
-            stdin
-                .write_all(input)
-                .expect("the desk reads its whole input")
-        });
+        scope.spawn(feed);
         desk.wait_with_output().expect("the desk program ends")
     });
     assert!(output.status.success(), "the desk ended {}", output.status);
     output.stdout
 }
 
-// The program's whole output is the plain desk's.
-fn agree(name: &str, input: &[u8]) -> Vec<u8> {
-    let (got, expected) = (run(input), fast::desk(input));
-    if got == expected {
-        return got;
-    }
+// Through a pipe, which may put pieces together or cut them again.
+fn through_a_pipe(pieces: &[&[u8]]) -> Vec<u8> {
+    let (read, mut write) = std::io::pipe().expect("a pipe");
+    output_of(read.into(), move || {
+        for piece in pieces {
+            let written = write.write_all(piece);
+            written.expect("the desk reads its whole input");
+        }
+    })
+}
+
+// Through a datagram socket, of which each read gets exactly one piece; an empty one ends the input.
+fn read_by_read(pieces: &[&[u8]]) -> Vec<u8> {
+    let (read, write) = UnixDatagram::pair().expect("a pair of sockets");
+    output_of(OwnedFd::from(read).into(), move || {
+        for piece in pieces.iter().chain([&&[][..]]) {
+            let sent = write.send(piece);
+            sent.expect("the desk reads its whole input");
+        }
+    })
+}
+
+fn run(input: &[u8]) -> Vec<u8> {
+    through_a_pipe(&[input])
+}
+
+// The fast desk's output for an input in pieces.
+fn fast_desk(pieces: &[&[u8]]) -> Vec<u8> {
+    let (mut desk, mut out) = (fast::Desk::new(), Vec::new());
+    pieces.iter().for_each(|piece| desk.feed(piece, &mut out));
+    desk.finish(&mut out);
+    out
+}
+
+// An output is the expected one; else the first line that differs is told.
+fn same(name: &str, got: &[u8], expected: &[u8]) {
     let lines = |text: &[u8]| String::from_utf8_lossy(text).into_owned();
-    for (got, expected) in lines(&got).lines().zip(lines(&expected).lines()) {
-        assert!(got == expected, "{name}: {got}, the plain desk {expected}");
+    if got != expected {
+        for (got, expected) in lines(got).lines().zip(lines(expected).lines()) {
+            assert!(got == expected, "{name}: {got}, the reference {expected}");
+        }
+        panic!("{name}: one output ends before the other");
     }
-    panic!("{name}: one output ends before the other");
+}
+
+// The program's and the fast desk's whole output is the reference's.
+fn agree(name: &str, input: &[u8]) -> Vec<u8> {
+    let expected = reference::desk(input);
+    same(name, &run(input), &expected);
+    same(&format!("{name}, fast"), &fast::desk(input), &expected);
+    expected
 }
 
 fn count(output: &[u8], counts: &mut BTreeMap<u8, usize>) {
@@ -99,27 +136,32 @@ fn the_vectors_agree() {
     let folder = Path::new(env!("CARGO_MANIFEST_DIR")).join("../vectors");
     let read = |name: &str| std::fs::read(folder.join(name)).expect(name);
     let (input, output) = (read("desk.in"), read("desk.out"));
-    assert!(run(&input) == output, "the program differs from desk.out");
-    assert!(
-        fast::desk(&input) == output,
-        "the plain desk differs from desk.out"
-    );
+    let got = agree("desk.in", &input);
+    assert!(got == output, "the desks differ from desk.out");
+}
+
+// An input cut into pieces of up to `most` bytes.
+fn cut<'a>(random: &mut Random, input: &'a [u8], most: usize) -> Vec<&'a [u8]> {
+    let (mut pieces, mut rest) = (Vec::new(), input);
+    while !rest.is_empty() {
+        let (piece, tail) = rest.split_at((1 + random.below(most)).min(rest.len()));
+        pieces.push(piece);
+        rest = tail;
+    }
+    pieces
 }
 
 #[test]
 fn pieces_agree() {
-    for seed in 41..45 {
+    for (seed, most) in (41..).zip([1, 2, 7, 100, 5_000, 30_000, 65_536]) {
         let mut random = Random(seed);
-        let input = stream(&mut random, STREAM);
-        let (mut desk, mut out) = (fast::Desk::new(), Vec::new());
-        let mut rest = &input[..];
-        while !rest.is_empty() {
-            let most = random.pick(&[1, 2, 100, 5_000, 30_000]);
-            let (piece, tail) = rest.split_at((1 + random.below(most)).min(rest.len()));
-            desk.feed(piece, &mut out);
-            rest = tail;
-        }
-        desk.finish(&mut out);
-        assert!(out == fast::desk(&input), "seed {seed}");
+        // Small pieces of a shorter stream, which are many all the same.
+        let input = stream(&mut random, STREAM.min(60_000 * most));
+        let expected = reference::desk(&input);
+        let pieces = cut(&mut random, &input, most);
+        let name = |way| format!("{way}, pieces of up to {most}");
+        same(&name("a pipe"), &through_a_pipe(&pieces), &expected);
+        same(&name("read by read"), &read_by_read(&pieces), &expected);
+        same(&name("fast"), &fast_desk(&pieces), &expected);
     }
 }
