@@ -1,5 +1,6 @@
 // The desk program: reads standard input to its end, hands it to the byte machine of `desk_lines`, and writes what that says.
-// Nothing is known here of what the bytes mean. That those read and written are those handed over is tested, not proved.
+// Nothing is known here of what the bytes mean. That a piece is handed over whole is proved; that those read are handed over, and
+// what is said of them is written, is tested.
 use desk_lines::begin;
 use desk_lines::feed;
 use desk_lines::finish;
@@ -12,10 +13,10 @@ use libc::STDIN_FILENO;
 use libc::STDOUT_FILENO;
 use text::lines::HELD_MAX;
 ghost use mathlib.Core.Path.{_≡_};
-ghost use Prim.Native.Nat.{_+_, _<_, _≤_, _^_};
+ghost use Prim.Native.Nat.{_+_, _<_, _^_};
 ghost use lib.ListN.{length};
 ghost use Rattle.desk_lines.specs.Sizes.{answerMax};
-ghost use Rattle.desk_lines.specs.Machine.{Ready, Lent};
+ghost use Rattle.desk_lines.specs.Machine.{emptied, Ready, Lent, HandedOver};
 
 // The bytes that are read, and written, at once at most.
 const PIECE_MAX: usize = 65536;
@@ -28,7 +29,7 @@ struct Handed {
 
 // The state with nothing left to write.
 fn emptied(state: State) -> State
-    ensures { λ r. ⌜ (r .number ≡ state .number) × (r .held ≡ state .held) × (r .wrote ≡ 0) × (r .kept ≡ state .kept) ⌝ }
+    ensures { λ r. ⌜ r ≡ emptied state ⌝ }
 {
     let kept = state.kept;
     State {
@@ -51,8 +52,8 @@ fn hand_over(
 ) -> Handed
     requires { ⌜ (Ready state (now table) (now line)) × (state .number + length (now piece) < 2 ^ 64)
         × (Lent (now raw) (now made) (now out) answerMax) × (state .wrote ≡ 0) ⌝ }
-    ensures { λ r. ⌜ (Ready (r .state) (now (table .exit)) (now (line .exit)))
-        × (r .state .number ≤ state .number + length (now (piece .entry))) × (r .state .wrote ≡ 0) ⌝ }
+    ensures { λ r. ⌜ HandedOver state (now (table .entry)) (now (line .entry)) (now (piece .entry))
+        (r .written) (r .state) (now (table .exit)) (now (line .exit)) ⌝ }
 {
     let mut at = 0;
     let mut now = state;

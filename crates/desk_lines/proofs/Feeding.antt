@@ -18,7 +18,7 @@ use Rattle.text.proofs.Feeding.{feeds-none, feeds-then, feeds-held, feeds-answe
 use Rattle.desk_lines.specs.declared.state.Progress.{Progress}
 use Rattle.desk_lines.specs.declared.state.State.{State}
 use Rattle.desk_lines.specs.Sizes.{answerMax}
-use Rattle.desk_lines.specs.Machine.{deskSays, deskNext, turnOf, future, Ready, Answered, Fed, Progressed}
+use Rattle.desk_lines.specs.Machine.{deskSays, deskNext, turnOf, future, emptied, Ready, Answered, Consumed, Fed, Progressed}
 
 -- A line over 8,192 digits is answered 12 and changes nothing, whatever it holds.
 desk-capped : Capped deskSays deskNext
@@ -28,28 +28,39 @@ desk-capped =
       alike = λ t p q h k. (rw (← unreadable-long p h, ← unreadable-long q k) refl, rw (← unreadable-long p h, ← unreadable-long q k) refl);
     }
 
--- Nothing is fed.
-fed-none : (s : State) (table line out : List ℕ) → Ready s table line → Fed s table line out [] s table line out
-fed-none s table line out r =
-    record {
-      said = [];
-      stored = stored-none out (s .wrote) refl;
-      feeds = feeds-none (turnOf s table) (take (s .held) line);
-      ready = r;
-      count = omega arith;
-    }
+-- Nothing is consumed.
+pub consumed-none : (s : State) (table line : List ℕ) → Ready s table line → Consumed s table line [] s table line
+consumed-none s table line r = record { said = []; feeds = feeds-none (turnOf s table) (take (s .held) line); ready = r; count = omega arith }
 
 -- One piece after another.
+pub consumed-then : {s s′ s″ : State} {t l t′ l′ t″ l″ p q : List ℕ} → Consumed s t l p s′ t′ l′ → Consumed s′ t′ l′ q s″ t″ l″
+    → Consumed s t l (p ++ q) s″ t″ l″
+consumed-then {p = p} {q = q} C D =
+    record {
+      said = C .said ++ D .said;
+      feeds = feeds-then (C .feeds) (D .feeds);
+      ready = D .ready;
+      count = omega (arith, C .count, D .count, length-append p q);
+    }
+
+-- What is written is no part of what is to come: it may be taken away.
+pub consumed-emptied : {s s′ : State} {t l p t′ l′ : List ℕ} → Consumed s t l p s′ t′ l′ → Consumed s t l p (emptied s′) t′ l′
+unfolding turnOf
+consumed-emptied C = record { said = C .said; feeds = C .feeds; ready = record { holds = C .ready .holds; keeps = C .ready .keeps }; count = C .count }
+
+-- The bytes after the first `at`, of those that `&x[at..]` lends.
+pub taken-next : (at n : ℕ) (x : List ℕ) → take at x ++ take n (take (length x - at) (drop at x)) ≡ take (at + n) x
+taken-next at n x = sym (take-add at n x ∙ ap (λ (q : List ℕ). take at x ++ take n q) (sym (tail-is x at)))
+
+-- Nothing is fed.
+fed-none : (s : State) (table line out : List ℕ) → Ready s table line → Fed s table line out [] s table line out
+unfolding consumed-none
+fed-none s table line out r = record { consumed = consumed-none s table line r; stored = stored-none out (s .wrote) refl }
+
 fed-then : {s s′ s″ : State} {t l o t′ l′ o′ t″ l″ o″ p q : List ℕ} → s .wrote ≤ length o
     → Fed s t l o p s′ t′ l′ o′ → Fed s′ t′ l′ o′ q s″ t″ l″ o″ → Fed s t l o (p ++ q) s″ t″ l″ o″
-fed-then {p = p} {q = q} h F G =
-    record {
-      said = F .said ++ G .said;
-      stored = stored-then h (F .stored) (G .stored);
-      feeds = feeds-then (F .feeds) (G .feeds);
-      ready = G .ready;
-      count = omega (arith, F .count, G .count, length-append p q);
-    }
+unfolding consumed-then
+fed-then h F G = record { consumed = consumed-then (F .consumed) (G .consumed); stored = stored-then h (F .stored) (G .stored) }
 
 -- What one cut took of a piece: it is held, or the line has ended and was answered.
 module _ (s : State) (table : List ℕ) {line piece line′ : List ℕ} {r : Cut} (R : Ready s table line) (t : Took line (s .held) piece r line′) where
@@ -61,11 +72,14 @@ module _ (s : State) (table : List ℕ) {line piece line′ : List ℕ} {r : Cut
       record {
         fed =
             record {
-              said = [];
+              consumed =
+                  record {
+                    said = [];
+                    feeds = feeds-held desk-capped (turnOf s table) (R .holds) t e;
+                    ready = record { holds = t .holds; keeps = R .keeps };
+                    count = omega arith;
+                  };
               stored = stored-none out (s .wrote) refl;
-              feeds = feeds-held desk-capped (turnOf s table) (R .holds) t e;
-              ready = record { holds = t .holds; keeps = R .keeps };
-              count = omega arith;
             };
         within = t .within;
         room = h;
@@ -79,11 +93,14 @@ module _ (s : State) (table : List ℕ) {line piece line′ : List ℕ} {r : Cut
       record {
         fed =
             record {
-              said = deskSays (turnOf s table) (take (r .held) line′);
+              consumed =
+                  record {
+                    said = deskSays (turnOf s table) (take (r .held) line′);
+                    feeds = rw (A .next, A .held) (feeds-answered desk-capped (turnOf s table) (R .holds) t e);
+                    ready = record { holds = rw (A .held) (holds-none (t .holds .size)); keeps = A .keeps };
+                    count = omega (arith, A .number);
+                  };
               stored = A .said;
-              feeds = rw (A .next, A .held) (feeds-answered desk-capped (turnOf s table) (R .holds) t e);
-              ready = record { holds = rw (A .held) (holds-none (t .holds .size)); keeps = A .keeps };
-              count = omega (arith, A .number);
             };
         within = t .within;
         room = omega (arith, A .room);
@@ -106,8 +123,7 @@ module _ {s s′ : State} {t l o x t′ l′ o′ : List ℕ} {at : ℕ} (F : Fe
   feeding-on {r} {t″} {l″} {o″} h n P =
       record {
         fed =
-            subst (λ (p : List ℕ). Fed s t l o p (r .state) t″ l″ o″)
-            (sym (take-add at (r .taken) x ∙ ap (λ (q : List ℕ). take at x ++ take (r .taken) q) (sym (tail-is x at)))) (fed-then h (F .fed) (P .fed));
+            subst (λ (p : List ℕ). Fed s t l o p (r .state) t″ l″ o″) (taken-next at (r .taken) x) (fed-then h (F .fed) (P .fed));
         within = omega (arith, P .within, tail-length x at, F .within);
         wrote = λ e. absurd (omega (arith, n, e));
       }

@@ -1,17 +1,20 @@
 -- The whole input, however it is cut into pieces: what a run of the machine says is the definition's output.
 use Prim.Native.Nat.{ℕ, suc}
-use mathlib.Core.Path.{_≡_, refl, sym, ap, _∙_}
+use native.Mathlib.Omega.{arith}
+use mathlib.Core.Path.{_≡_, refl, sym, ap, _∙_, subst}
 use mathlib.Core.List.{List, [], _∷_, _++_, flatten}
 use lib.ListN.{take}
 use Rattle.rules.specs.Rows.{chop, chopUpTo}
 use Rattle.rules.specs.Origin.{vrps}
 use Rattle.rules.specs.Text.{lines, saidFrom}
 use Rattle.rules.specs.Desk.{Desk, newDesk, outputLine, lineAnswer, lineNext, deskFrom, desk}
-use Rattle.text.specs.Feeding.{Runs, finished as ended, fed as cut}
+use Rattle.octets.specs.Buffer.{Stored}
+use Rattle.octets.proofs.Writing.{stored-front}
+use Rattle.text.specs.Feeding.{Runs, finished as ended, fed}
 use Rattle.text.proofs.Feeding.{run-says}
 use Rattle.desk_lines.specs.declared.state.State.{State}
 use Rattle.frames.specs.Keeping.{deskOf}
-use Rattle.desk_lines.specs.Machine.{deskSays, deskNext, turnOf, begun, future, emptied, Run, finished, fed}
+use Rattle.desk_lines.specs.Machine.{deskSays, deskNext, turnOf, begun, future, Run, finished, consumed}
 
 -- The definition's fold over lines is the step's.
 pub desk-said : (n : ℕ) (d : Desk) (ls : List (List ℕ)) → deskFrom n d ls ≡ saidFrom deskSays deskNext (record { number = n; desk = d }) ls
@@ -19,15 +22,21 @@ unfolding deskFrom saidFrom deskSays deskNext
 desk-said n d [] = refl
 desk-said n d (l ∷ ls) = ap (λ (r : List ℕ). outputLine n (lineAnswer d l) ++ r) (desk-said (suc n) (lineNext d l) ls)
 
+-- What is stored from the start of a buffer is what its front holds.
+stored-said : {out said out′ : List ℕ} {w end : ℕ} → w ≡ 0 → Stored out w said end out′ → take end out′ ≡ said
+stored-said e S = stored-front (omega (arith, e)) S ∙ rw e refl
+
 -- A run of the desk is one of its step: what is written is no part of what is to come.
 run-feeds : (s : State) (table line : List ℕ) (pieces : List (List ℕ)) (output : List ℕ) → Run s table line pieces output
     → Runs deskSays deskNext (turnOf s table) (take (s .held) line) pieces output
-unfolding future emptied turnOf
-run-feeds _ _ _ _ _ (finished s table line) = ended (turnOf s table) (take (s .held) line)
-run-feeds _ _ _ _ _ (fed s table line out piece s′ table′ line′ out′ wrote pieces last f r) =
-    cut (turnOf s table) (take (s .held) line) piece (f .said) (turnOf s′ table′) (take (s′ .held) line′) pieces last (f .feeds)
-    (run-feeds (emptied s′ wrote) table′ line′ pieces last r)
+unfolding future
+run-feeds _ _ _ _ _ (finished s table line out end out′ e S) =
+    subst (Runs deskSays deskNext (turnOf s table) (take (s .held) line) []) (sym (stored-said e S)) (ended (turnOf s table) (take (s .held) line))
+run-feeds _ _ _ _ _ (consumed s table line piece s′ table′ line′ pieces last c r) =
+    fed (turnOf s table) (take (s .held) line) piece (c .said) (turnOf s′ table′) (take (s′ .held) line′) pieces last (c .feeds)
+    (run-feeds s′ table′ line′ pieces last r)
 
+-- However the input is cut into pieces, what a run says is the definition's output.
 pub run-desk : (table line : List ℕ) (pieces : List (List ℕ)) (output : List ℕ) → Run begun table line pieces output → output ≡ desk (flatten pieces)
 unfolding begun turnOf deskOf vrps chop chopUpTo desk newDesk
 run-desk table line pieces output r =

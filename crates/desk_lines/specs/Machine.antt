@@ -2,7 +2,7 @@
 -- give equals the definition of the whole input."
 use Prim.Native.Nat.{ℕ, suc, _+_, _≤_, _<_}
 use mathlib.Core.Path.{_≡_}
-use mathlib.Core.Bool.{false}
+use mathlib.Core.Bool.{Bool, true, false}
 use mathlib.Core.List.{List, [], _∷_, _++_}
 use lib.ListN.{length, take}
 use Rattle.rules.specs.Answers.{Answer, answerNumber}
@@ -75,13 +75,18 @@ pub record Answered (s : State) (table line out : List ℕ) (s′ : State) (tabl
   pub held : s′ .held ≡ 0
   pub room : s′ .wrote ≤ s .wrote + answerMax
 
--- What feeding some bytes promises: what it adds to the output and what the rest of the input will give are what all of it would.
-pub record Fed (s : State) (table line out piece : List ℕ) (s′ : State) (table′ line′ out′ : List ℕ) : Type 0 where
+-- What taking some bytes in promises, wherever the answers are put: what they say and what the rest of the input will give are what
+-- all of it would.
+pub record Consumed (s : State) (table line piece : List ℕ) (s′ : State) (table′ line′ : List ℕ) : Type 0 where
   pub said : List ℕ
-  pub stored : Stored out (s .wrote) said (s′ .wrote) out′
   pub feeds : Feeds deskSays deskNext (turnOf s table) (take (s .held) line) piece said (turnOf s′ table′) (take (s′ .held) line′)
   pub ready : Ready s′ table′ line′
   pub count : s′ .number ≤ s .number + length piece
+
+-- What feeding some bytes promises: they are consumed, and what they say is added to the output.
+pub record Fed (s : State) (table line out piece : List ℕ) (s′ : State) (table′ line′ out′ : List ℕ) : Type 0 where
+  pub consumed : Consumed s table line piece s′ table′ line′
+  pub stored : Stored out (s .wrote) (consumed .said) (s′ .wrote) out′
 
 -- What it promises of a piece: the bytes that it took were fed, at least one where there is room for an answer.
 pub record Progressed (s : State) (table line out piece : List ℕ) (r : Progress) (table′ line′ out′ : List ℕ) : Type 0 where
@@ -90,13 +95,23 @@ pub record Progressed (s : State) (table line out piece : List ℕ) (r : Progres
   pub room : r .state .wrote ≤ length out
   pub some : 0 < length piece → s .wrote + answerMax ≤ length out → 0 < r .taken
 
--- A run of the machine: pieces of any size are fed in turn, the caller may take away what is written after each, and at the end of
--- the input what is left is said.
-unfoldable pub emptied : State → ℕ → State
-emptied s wrote = record { number = s .number; held = s .held; wrote = wrote; kept = s .kept }
+-- The state once the caller has taken away what is written.
+abbrev pub emptied : State → State
+emptied s = record { number = s .number; held = s .held; wrote = 0; kept = s .kept }
 
+-- What handing a piece over promises: the machine is ready, with nothing left to write; where all was written, the whole piece is
+-- consumed.
+pub record HandedOver (s : State) (table line piece : List ℕ) (written : Bool) (s′ : State) (table′ line′ : List ℕ) : Type 0 where
+  pub whole : written ≡ true → Consumed s table line piece s′ table′ line′
+  pub ready : Ready s′ table′ line′
+  pub empty : s′ .wrote ≡ 0
+
+-- ---- Runs
+
+-- A run, of whose calls only the promises are known: pieces of any size are consumed in turn, and at the end of the input what is
+-- left is stored in `out`.
 pub data Run : State → List ℕ → List ℕ → List (List ℕ) → List ℕ → Type 0 where
-  finished : (s : State) (table line : List ℕ) → Run s table line [] (future s table line [])
-  fed : (s : State) (table line out piece : List ℕ) (s′ : State) (table′ line′ out′ : List ℕ) (wrote : ℕ) (pieces : List (List ℕ)) (last : List ℕ)
-      → (f : Fed s table line out piece s′ table′ line′ out′) → Run (emptied s′ wrote) table′ line′ pieces last
-      → Run s table line (piece ∷ pieces) (f .said ++ last)
+  finished : (s : State) (table line out : List ℕ) (end : ℕ) (out′ : List ℕ) → s .wrote ≡ 0
+      → Stored out (s .wrote) (future s table line []) end out′ → Run s table line [] (take end out′)
+  consumed : (s : State) (table line piece : List ℕ) (s′ : State) (table′ line′ : List ℕ) (pieces : List (List ℕ)) (last : List ℕ)
+      → (c : Consumed s table line piece s′ table′ line′) → Run s′ table′ line′ pieces last → Run s table line (piece ∷ pieces) (c .said ++ last)

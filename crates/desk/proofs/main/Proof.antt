@@ -4,6 +4,7 @@ use Prim.Native.Nat.{ℕ, _+_, _*_, _≤_}
 use mathlib.Core.Path.{_≡_, refl, sym, _∙_}
 use native.Mathlib.Omega.{arith}
 use borrow.Author.Needs.{needs}
+use borrow.Author.Tests.{not-false}
 use native.Mathlib.Nat.{min-le-right}
 use lib.ListN.{length, length-take, length-replicate}
 use lib.Seq.{length-take-le}
@@ -70,13 +71,14 @@ loop-again c =
     let i = t .before .loop .inv in
     let n = count h .count .result in
     let r = read h .read in
+    let w = h .hand-over .ensures .whole (not-false _ (c .before .if3 .left)) in
     let k = h .hand-over .kept .1 .1 .1 in (
       r .kept .1 .0 ∙ i .0,
       k .1 .1 .1 .0 ∙ i .1,
       record { frame = k .0 ∙ i .2 .frame; result = k .1 .0 ∙ i .2 .result; within = omega (arith, i .1, k .1 .1 .1 .0) },
-      h .hand-over .ensures .0,
-      omega (arith, h .hand-over .ensures .1, i .4, t .loop-test .taken, r .kept .1 .0, i .0, length-take n (r .last .1 .0), min-le-right n (length (r .last .1 .0))),
-      h .hand-over .ensures .2,
+      w .ready,
+      omega (arith, w .count, i .4, t .loop-test .taken, r .kept .1 .0, i .0, length-take n (r .last .1 .0), min-le-right n (length (r .last .1 .0))),
+      h .hand-over .ensures .empty,
     )
 
 slice-aggregate-write-all : tie.Need-slice-aggregate-write-all Inv-loop μ-loop

@@ -51,8 +51,8 @@ feed-line-requires c κs =
     let l = e .before .before in
     let i = l .loop .inv in
     let b = start l in (
-      i .0 .fed .ready,
-      omega (arith, i .0 .fed .count, length-take-le (l .loop .at) (now (b .args .piece)) (i .0 .within), e .before .loop-test .taken, b .pre .1),
+      i .0 .fed .consumed .ready,
+      omega (arith, i .0 .fed .consumed .count, length-take-le (l .loop .at) (now (b .args .piece)) (i .0 .within), e .before .loop-test .taken, b .pre .1),
       record { frame = i .1 .frame; result = i .1 .result; within = omega (arith, e .if1 .left, i .1 .within) },
     )
 
