@@ -57,11 +57,9 @@ fi
 top=$(CDPATH='' cd -- "$(dirname -- "$0")" && pwd)
 desk=$top/target/bin/desk
 if [ ! -x "$desk" ] || [ -n "$(find "$top/crates" -type f -newer "$desk" | head -n 1)" ]; then
-    command -v rt >/dev/null || stop "the tool 'rt' is missing, and $desk has to be built"
-    echo "desk.sh: building target/bin/desk" >&2
-    log=$(cd "$top" && rt check desk 2>&1 </dev/null) || { echo "$log" >&2; stop "'rt check desk' failed"; }
-    [ -x "$desk" ] || stop "'rt check desk' made no $desk"
-    touch "$desk"
+    # shellcheck source=build.sh
+    . "$top/build.sh"
+    build "$desk" rt check desk
 fi
 [ $# -eq 0 ] || exec <"$1"
 exec "$desk"

@@ -16,11 +16,9 @@ fi
 top=$(CDPATH='' cd -- "$(dirname -- "$0")" && pwd)
 library=$top/target/staticlib/libc_api.a
 if [ ! -f "$library" ] || [ -n "$(find "$top/crates" -type f -newer "$library" | head -n 1)" ]; then
-    command -v rt >/dev/null || stop "the tool 'rt' is missing, and $library has to be built"
-    echo "install.sh: building target/staticlib/libc_api.a" >&2
-    log=$(cd "$top" && rt staticlib c_api 2>&1 </dev/null) || { echo "$log" >&2; stop "'rt staticlib c_api' failed"; }
-    [ -f "$library" ] || stop "'rt staticlib c_api' made no $library"
-    touch "$library"
+    # shellcheck source=build.sh
+    . "$top/build.sh"
+    build "$library" rt staticlib c_api
 fi
 
 case $1 in
