@@ -1,12 +1,10 @@
 // The library for callers in C and Rust: numbers, slices and numbers handed back. include/bgp_policy.h declares it.
-pub mod report;
-
+use answers::report_advertised;
+use answers::report_chosen;
+use answers::report_opened;
+use answers::report_received;
+use answers::report_stated;
 use choice::keys::Sender;
-use report::report_advertised;
-use report::report_chosen;
-use report::report_opened;
-use report::report_received;
-use report::report_stated;
 use rules::Session;
 ghost use mathlib.Core.Path.{_≡_};
 ghost use Rattle.rules.specs.Answers.{answerNumber, besideNumber};
@@ -14,8 +12,8 @@ ghost use Rattle.rules.specs.Roles.{openSession};
 ghost use Rattle.rules.specs.Receipt.{receiptVerdict};
 ghost use Rattle.rules.specs.Sending.{sendingVerdict};
 ghost use Rattle.rules.specs.Origin.{ipv4, originState, receivedTag};
-ghost use Rattle.rules.specs.Choice.{chooseIn, better};
-ghost use Rattle.c_api.specs.Numbers.{Reported, indexTold, leftTold};
+ghost use Rattle.rules.specs.Choice.{chooseIn, better, indexTold, leftTold};
+ghost use Rattle.c_api.specs.Numbers.{Reported};
 
 // Opening of a session: the role agreement in the OPEN's optional parameters.
 #[no_mangle]

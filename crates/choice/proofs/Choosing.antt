@@ -17,7 +17,7 @@ use Rattle.rules.specs.declared.Refusal.the-variants.{BadSetting, BadLength, Ba
 use Rattle.rules.proofs.Answers.{here, past, earlier, answer-decided, answer-passed}
 use Rattle.rules.proofs.Lists.{Past, past-start, past-next, past-found, past-end}
 use Rattle.rules.proofs.Fixed.{whole-mod, not-whole-mod, whole-count}
-use Rattle.attributes.proofs.Positions.{items-next, items-end}
+use Rattle.octets.proofs.Positions.{items-next, items-end}
 use Rattle.choice.specs.declared.best.Best.{Best}
 use Rattle.choice.specs.declared.best.Best.the-variants.{Nothing, Route}
 use Rattle.choice.specs.declared.best.BestRoute.{BestRoute}

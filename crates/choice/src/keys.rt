@@ -1,5 +1,5 @@
 // The comparison keys of a candidate, and the order of routes by them (01, "Choosing a route"; RFC 4271 section 9.1.2.2).
-use attributes::as_path::path_length;
+use as_path::path_length;
 use attributes::layout::Layout;
 use attributes::value;
 ghost use mathlib.Core.Path.{_≡_};

@@ -8,7 +8,7 @@ use lib.ListN.{length, take, drop, length-append}
 use Rattle.rules.specs.Bytes.{keep}
 use Rattle.rules.specs.Rows.{chop, by}
 use Rattle.rules.specs.Changes.{communities, dropFrom}
-use Rattle.attributes.proofs.Positions.{items-next, items-end}
+use Rattle.octets.proofs.Positions.{items-next, items-end}
 use Rattle.communities.specs.Tags.{kept}
 
 module _ (dropped : List ℕ → Bool) where

@@ -12,7 +12,7 @@ use Rattle.rules.specs.Bytes.{keep}
 use Rattle.rules.specs.Settings.{unavailable}
 use Rattle.rules.specs.Changes.{isTag, communities}
 use Rattle.rules.specs.Origin.{tagValues, greatest, tagState}
-use Rattle.attributes.proofs.Positions.{items-next, items-end}
+use Rattle.octets.proofs.Positions.{items-next, items-end}
 use Rattle.communities.specs.Received.{greater, withValueOf, withCommunity}
 
 -- A state is told already: the greatest of it and the values up to 2.

@@ -2,7 +2,6 @@
 -- bytes of a new tag by its state. Internal: `dropCommunities` and `tag` of `rules` say what they come to.
 use mathlib.Core.Bool.{Bool, cond}
 use mathlib.Core.List.{List, []}
-use mathlib.Core.Option.{Option, none, some}
 use Prim.Native.Nat.{ℕ}
 use lib.Dec.{leb}
 use Rattle.rules.specs.Settings.{invalid}
@@ -16,9 +15,6 @@ dropTest test c = isTag c
 unfoldable pub kept : (List ℕ → Bool) → List ℕ → List ℕ
 kept dropped c = cond (dropped c) [] c
 
--- The state that a tag is to tell: 3, unavailable, stands for no tag.
-unfoldable pub toldTag : ℕ → Option ℕ
-toldTag state = cond (leb state invalid) (some state) none
-
+-- The bytes of a tag that tells a state: none where it tells none.
 unfoldable pub tagBytes : ℕ → List ℕ
 tagBytes state = cond (leb state invalid) (tag state) []

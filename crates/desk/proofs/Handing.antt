@@ -12,8 +12,8 @@ use Rattle.rules.specs.Origin.{vrps}
 use Rattle.octets.proofs.Slices.{tail-length}
 use Rattle.desk_lines.specs.declared.state.Progress.{Progress}
 use Rattle.desk_lines.specs.declared.state.State.{State}
-use Rattle.text.specs.Lines.{heldMax}
-use Rattle.text.proofs.Lining.{holds-none}
+use Rattle.input_lines.specs.Lines.{heldMax}
+use Rattle.input_lines.proofs.Lining.{holds-none}
 use Rattle.frames.specs.Sizes.{tableMax}
 use Rattle.desk_lines.specs.Machine.{begun, emptied, Ready, Consumed, Progressed, HandedOver}
 use Rattle.desk_lines.proofs.Feeding.{consumed-none, consumed-then, consumed-emptied, taken-next}

@@ -9,12 +9,12 @@ use lib.Seq.{take-add}
 use Rattle.rules.specs.Desk.{lineAnswer, lineNext}
 use Rattle.octets.proofs.Slices.{tail-is, tail-length}
 use Rattle.octets.proofs.Writing.{stored-none, stored-then}
-use Rattle.text.specs.declared.lines.Cut.{Cut}
-use Rattle.text.specs.Lines.{Took}
-use Rattle.text.specs.Feeding.{Capped}
+use Rattle.input_lines.specs.declared.Cut.{Cut}
+use Rattle.input_lines.specs.Lines.{Took}
+use Rattle.input_lines.specs.Feeding.{Capped}
 use Rattle.text.proofs.Spelling.{unreadable-long}
-use Rattle.text.proofs.Lining.{holds-none}
-use Rattle.text.proofs.Feeding.{feeds-none, feeds-then, feeds-held, feeds-answered, end-none, end-answers}
+use Rattle.input_lines.proofs.Lining.{holds-none}
+use Rattle.input_lines.proofs.Feeding.{feeds-none, feeds-then, feeds-held, feeds-answered, end-none, end-answers}
 use Rattle.desk_lines.specs.declared.state.Progress.{Progress}
 use Rattle.desk_lines.specs.declared.state.State.{State}
 use Rattle.desk_lines.specs.Sizes.{answerMax}

@@ -10,8 +10,8 @@ use Rattle.rules.specs.Text.{lines, saidFrom}
 use Rattle.rules.specs.Desk.{Desk, newDesk, outputLine, lineAnswer, lineNext, deskFrom, desk}
 use Rattle.octets.specs.Buffer.{Stored}
 use Rattle.octets.proofs.Writing.{stored-front}
-use Rattle.text.specs.Feeding.{Runs, finished as ended, fed}
-use Rattle.text.proofs.Feeding.{run-says}
+use Rattle.input_lines.specs.Feeding.{Runs, finished as ended, fed}
+use Rattle.input_lines.proofs.Feeding.{run-says}
 use Rattle.desk_lines.specs.declared.state.State.{State}
 use Rattle.frames.specs.Keeping.{deskOf}
 use Rattle.desk_lines.specs.Machine.{deskSays, deskNext, turnOf, begun, future, Run, finished, consumed}

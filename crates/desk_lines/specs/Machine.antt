@@ -9,8 +9,8 @@ use Rattle.rules.specs.Answers.{Answer, answerNumber}
 use Rattle.rules.specs.Text.{lines, saidFrom, space, decimal}
 use Rattle.rules.specs.Desk.{Desk, outputLine, shownResult, lineAnswer, lineNext}
 use Rattle.octets.specs.Buffer.{Stored}
-use Rattle.text.specs.Lines.{Holds}
-use Rattle.text.specs.Feeding.{Feeds}
+use Rattle.input_lines.specs.Lines.{Holds}
+use Rattle.input_lines.specs.Feeding.{Feeds}
 use Rattle.desk_lines.specs.declared.state.Progress.{Progress}
 use Rattle.desk_lines.specs.declared.state.State.{State}
 use Rattle.frames.specs.Sizes.{resultMax}

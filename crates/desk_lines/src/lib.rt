@@ -7,11 +7,11 @@ pub mod state;
 
 use frames::kept::Kept;
 use lines::answer_line;
+use input_lines::cut_line;
 use rules::Session;
 use sizes::ANSWER_MAX;
 use state::Progress;
 use state::State;
-use text::lines::cut_line;
 ghost use mathlib.Core.Path.{_≡_};
 ghost use mathlib.Core.List.{[]};
 ghost use Prim.Native.Nat.{_+_, _≤_, _<_, _^_};

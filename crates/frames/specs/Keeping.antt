@@ -10,7 +10,7 @@ use Rattle.rules.specs.Origin.{ipv4, vrps}
 use Rattle.rules.specs.Desk.{Desk, sessionIn, frameAnswer, frameNext}
 use Rattle.frames.specs.declared.reply.Reply.{Reply}
 use Rattle.frames.specs.declared.reply.Reply.the-variants.{Bytes, Refused}
-use Rattle.vrps.specs.Scan.{GoodTable}
+use Rattle.vrp_tables.specs.Scan.{GoodTable}
 use Rattle.frames.specs.declared.kept.Kept.{Kept}
 use Rattle.frames.specs.Sizes.{resultMax, tableMax}
 

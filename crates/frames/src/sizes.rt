@@ -2,7 +2,7 @@
 // there.
 use rules::BLOCK_MAX;
 use rules::VRPS_MAX;
-use vrps::vrp::VRP_SIZE;
+use vrps::VRP_SIZE;
 
 // The bytes of the longest result, a state and a block.
 pub const RESULT_MAX: usize = 1 + BLOCK_MAX;

@@ -21,7 +21,7 @@ use Rattle.attributes.specs.declared.layout.Reading.{Reading}
 use Rattle.attributes.specs.declared.layout.Reading.the-variants.{Fault}
 use Rattle.attributes.proofs.Found.{fault-read}
 use Rattle.rewriting.specs.Plan.{ReadBlock}
-use Rattle.policy.specs.Judge.{ruled, judged}
+use Rattle.verdicts.specs.Judge.{ruled, judged}
 
 leaves-refused : {decided : Answer (List Attribute)} (before : List ℕ) {r : Refusal} → decided ≡ refused r → Leaves decided before (refused r) before
 unfolding fitted sized stored

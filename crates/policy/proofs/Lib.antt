@@ -1,4 +1,3 @@
--- Laws of what is found of a block and of the verdict by it.
-pub mod Judging
+-- Laws of what is found of a block and of what the operations leave by it.
 pub mod Readings
 pub mod Leaving

@@ -1,6 +1,5 @@
 // Receipt and sending (RFC 9234 section 5, RFC 8097; 01, "Receipt" and "Sending"): the checks, the verdict, and the block
 // rewritten.
-pub mod judge;
 pub mod placed;
 
 use attributes::layout::Reading;
@@ -8,11 +7,6 @@ use attributes::otc_as;
 use attributes::read;
 use attributes::value;
 use communities::tags::ALL_TAGS;
-use judge::receipt_rule;
-use judge::received_otc;
-use judge::sending_rule;
-use judge::sent_otc;
-use judge::sent_tag;
 use placed::Placed;
 use rewriting::plan::OPTIONAL_TRANSITIVE;
 use rewriting::plan::Output;
@@ -25,6 +19,11 @@ use settings::ranges::block_size_ok;
 use settings::ranges::sending_ok;
 use settings::ranges::session_ok;
 use settings::states::UNAVAILABLE;
+use verdicts::receipt_rule;
+use verdicts::received_otc;
+use verdicts::sending_rule;
+use verdicts::sent_otc;
+use verdicts::sent_tag;
 ghost use Rattle.rules.specs.Answers.{toldReceived, toldAdvertised};
 ghost use Rattle.rules.specs.Receipt.{Got};
 ghost use Rattle.rules.specs.Sending.{Sent};

@@ -16,8 +16,9 @@ use Rattle.rules.proofs.Blocks.{All, all-map}
 use Rattle.rules.proofs.Parts.{only, is, has-count, encode-append}
 use Rattle.rules.proofs.Dropping.{left, only-drop}
 use Rattle.rules.proofs.Adding.{only-insert-off, only-tag}
-use Rattle.communities.specs.Tags.{toldTag, tagBytes}
-use Rattle.rewriting.specs.Plan.{toldOtc, newTagBytes, newOtcBytes}
+use Rattle.settings.specs.Told.{toldTag, toldOtc}
+use Rattle.communities.specs.Tags.{tagBytes}
+use Rattle.rewriting.specs.Plan.{newTagBytes, newOtcBytes}
 use Rattle.rewriting.proofs.Fronts.{front, back, front-back, insert-between}
 use Rattle.rewriting.proofs.Turned.{turnedAll, turned-dropped, turned-tagged, turned-bare, turned-same, has-left, turned-front, turned-back}
 

@@ -17,9 +17,10 @@ use Rattle.rules.proofs.Parts.{count, size, size-cons, encode-append}
 use Rattle.rules.proofs.Communities.{drop-le}
 use Rattle.rules.proofs.Readable.{Good}
 use Rattle.rules.proofs.Dropping.{left}
+use Rattle.settings.specs.Told.{toldTag, toldOtc}
 use Rattle.attributes.specs.Layout.{place, placeOf, placeAbove}
-use Rattle.communities.specs.Tags.{dropTest, toldTag}
-use Rattle.rewriting.specs.Plan.{toldOtc, leftOf, communityBytes, newTagBytes, newOtcBytes, item, piece, emitted, Clear, Whole, Leaving, PlanOk}
+use Rattle.communities.specs.Tags.{dropTest}
+use Rattle.rewriting.specs.Plan.{leftOf, communityBytes, newTagBytes, newOtcBytes, item, piece, emitted, Clear, Whole, Leaving, PlanOk}
 use Rattle.rewriting.specs.declared.plan.Plan.{Plan}
 use Rattle.rewriting.proofs.Fronts.{front, back, front-back, front-size}
 use Rattle.rewriting.proofs.Turned.{turnedAll, turned-append}

@@ -19,12 +19,13 @@ use Rattle.rules.proofs.Parts.{count, size, encode-append}
 use Rattle.rules.proofs.Readable.{Good, read-good}
 use Rattle.rules.proofs.Communities.{drop-nil, drop-le}
 use Rattle.rules.proofs.Dropping.{left}
+use Rattle.settings.specs.Told.{toldTag, toldOtc}
 use Rattle.attributes.specs.Layout.{placeOf, SizeAt, valueAt, layout}
 use Rattle.attributes.specs.declared.layout.Layout.{Layout}
 use Rattle.attributes.proofs.Places.{place-le}
 use Rattle.attributes.proofs.Found.{value-of, has-of}
-use Rattle.communities.specs.Tags.{dropTest, toldTag}
-use Rattle.rewriting.specs.Plan.{toldOtc, leftOf, communityBytes, newTagBytes, newOtcBytes, item, emitted, Whole, Leaving, PlanOk, Planned, ReadBlock, Sizing, turnedSize}
+use Rattle.communities.specs.Tags.{dropTest}
+use Rattle.rewriting.specs.Plan.{leftOf, communityBytes, newTagBytes, newOtcBytes, item, emitted, Whole, Leaving, PlanOk, Planned, ReadBlock, Sizing, turnedSize}
 use Rattle.rewriting.specs.declared.plan.Plan.{Plan}
 use Rattle.rewriting.proofs.Turned.{turnedAll}
 use Rattle.rewriting.proofs.Found.{pastCommunities, turned-none, Found, found, place-found, place-none, past-none, framed-middle, one-only, left-none, left-one}

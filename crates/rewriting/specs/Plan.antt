@@ -4,7 +4,6 @@ use mathlib.Core.Path.{_≡_}
 use mathlib.Core.Bool.{Bool, true, cond, _&&_}
 use mathlib.Core.List.{List, [], _∷_, _++_}
 use mathlib.Core.Logic.{_⊎_}
-use mathlib.Core.Option.{Option, none, some}
 use Prim.Native.Nat.{ℕ, _+_, _-_, _≤_, _<_}
 use lib.Dec.{leb, ltb, eqb}
 use lib.ListN.{length, getD}
@@ -12,14 +11,11 @@ use Rattle.rules.specs.Bytes.{part, isEmpty, bytes2, bytes4}
 use Rattle.rules.specs.Settings.{blockMax, invalid}
 use Rattle.rules.specs.Attributes.{Attribute, attribute, attributes, long, lengthBytes, encodeOne, encode, readable, communitiesType, otcType}
 use Rattle.rules.specs.Changes.{tag, dropFrom, withValue, newAttribute, rewritten}
+use Rattle.settings.specs.Told.{toldTag, toldOtc}
 use Rattle.attributes.specs.Layout.{layout}
 use Rattle.attributes.specs.declared.layout.Layout.{Layout}
-use Rattle.communities.specs.Tags.{dropTest, toldTag, tagBytes}
+use Rattle.communities.specs.Tags.{dropTest, tagBytes}
 use Rattle.rewriting.specs.declared.plan.Plan.{Plan}
-
--- The AS that a new OTC is to name: 0 stands for no new OTC.
-unfoldable pub toldOtc : ℕ → Option ℕ
-toldOtc asn = cond (eqb asn 0) none (some asn)
 
 -- The flags of an attribute that gets a value of n bytes: a short form that n passes becomes long; and its header.
 unfoldable pub valueFlags : ℕ → ℕ → ℕ

@@ -5,10 +5,10 @@ use Rattle.rules.specs.Answers.{Answer, done, refused}
 use Rattle.rules.specs.Attributes.{attributes}
 use Rattle.rules.specs.Changes.{rewritten, Leaves}
 use Rattle.rules.specs.declared.Refusal.the-variants.{NoRoom}
-use Rattle.communities.specs.Tags.{dropTest, toldTag}
+use Rattle.settings.specs.Told.{toldTag, toldOtc}
+use Rattle.communities.specs.Tags.{dropTest}
 use Rattle.rewriting.specs.declared.plan.Output.{Output}
 use Rattle.rewriting.specs.declared.plan.Output.the-variants.{Bytes, Full}
-use Rattle.rewriting.specs.Plan.{toldOtc}
 
 unfoldable pub toldOutput : Output → Answer ℕ
 toldOutput (Bytes n) = done n

@@ -1,5 +1,3 @@
--- Laws of hex and decimal text, of lines, and of feeding pieces.
+-- Laws of hex and decimal text.
 pub mod Spelling
 pub mod Decimals
-pub mod Lining
-pub mod Feeding

@@ -1,4 +1,2 @@
--- What decoding stores, what cutting a line promises, and what a machine promises that answers lines however its input is cut.
+-- What decoding stores.
 pub mod Hex
-pub mod Lines
-pub mod Feeding

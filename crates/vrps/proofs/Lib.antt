@@ -1,5 +1,3 @@
--- Laws of where two numbers differ, of one record, of the scan, and of the table check.
+-- Laws of where two numbers differ, and of one record.
 pub mod Differing
 pub mod Records
-pub mod Scans
-pub mod Tables

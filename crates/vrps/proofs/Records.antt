@@ -8,7 +8,7 @@ use borrow.Author.Tests.{lt-ltb, le-ltb, le-leb, lt-leb, leb-true, leb-false, eq
 use lib.Dec.{leb, ltb, eqb}
 use Rattle.rules.specs.Origin.{Vrp, badVrp, agree, covers, sameAs, matches}
 use Rattle.rules.proofs.Lists.{and-left, and-right}
-use Rattle.vrps.specs.Scan.{allowed, weighed}
+use Rattle.vrps.specs.Weighing.{allowed, weighed}
 
 module _ (w : ℕ) (v : Vrp) where
   -- A length above the maximum; else the maximum decides.

@@ -1,3 +1,2 @@
--- What the scan keeps from one record to the next, and what checking a table answers.
-pub mod Scan
-pub mod Table
+-- What one VRP is to a route.
+pub mod Weighing

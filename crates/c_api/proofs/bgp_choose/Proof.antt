@@ -3,8 +3,7 @@ use Prim.Native.Nat.{ℕ}
 use mathlib.Core.Path.{_≡_}
 use denote.Ref.{now}
 use Rattle.rules.specs.Answers.{Answer, answerNumber, besideNumber}
-use Rattle.rules.specs.Choice.{Choice, chooseIn}
-use Rattle.c_api.specs.Numbers.{indexTold, leftTold}
+use Rattle.rules.specs.Choice.{Choice, chooseIn, indexTold, leftTold}
 use borrow.Author.Needs.{needs}
 use Rattle.c_api.proofs.bgp_choose.Statement.{statement}
 use Rattle.c_api.proofs.bgp_choose.Tie as tie

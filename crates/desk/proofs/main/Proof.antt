@@ -8,7 +8,7 @@ use borrow.Author.Tests.{not-false}
 use native.Mathlib.Nat.{min-le-right}
 use lib.ListN.{length, length-take, length-replicate}
 use lib.Seq.{length-take-le}
-use Rattle.text.specs.Lines.{heldMax}
+use Rattle.input_lines.specs.Lines.{heldMax}
 use Rattle.frames.specs.Sizes.{resultMax, tableMax}
 use Rattle.desk_lines.specs.Sizes.{frameMax, answerMax}
 use Rattle.desk_lines.specs.Machine.{begun, Ready, Lent}

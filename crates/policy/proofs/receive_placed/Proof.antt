@@ -14,13 +14,14 @@ use Rattle.rules.specs.Changes.{Leaves}
 use Rattle.rules.specs.Receipt.{receiptRules, receiptResult, receiptVerdict}
 use Rattle.rules.specs.declared.Refusal.the-variants.{Ineligible}
 use Rattle.rules.proofs.Checked.{Late}
-use Rattle.communities.specs.Tags.{dropTest, toldTag}
+use Rattle.settings.specs.Told.{toldTag}
+use Rattle.communities.specs.Tags.{dropTest}
 use Rattle.attributes.specs.declared.layout.Layout.{Layout}
 use Rattle.rewriting.specs.Plan.{ReadBlock}
 use Rattle.rewriting.specs.Stores.{toldOutput}
-use Rattle.policy.specs.Judge.{ruled, judged}
+use Rattle.verdicts.specs.Judge.{ruled, judged}
 use Rattle.policy.specs.Placed.{toldPlaced}
-use Rattle.policy.proofs.Judging.{receipt-late}
+use Rattle.verdicts.proofs.Judging.{receipt-late}
 use Rattle.policy.proofs.Readings.{read-clean, has-found, otc-found}
 use Rattle.policy.proofs.Leaving.{leaves-setting, leaves-length, leaves-fault, leaves-rule, leaves-output}
 use borrow.Author.Needs.{needs}

@@ -18,8 +18,8 @@ use Rattle.rules.proofs.Checked.{Late}
 use Rattle.communities.specs.Tags.{dropTest}
 use Rattle.rewriting.specs.Plan.{ReadBlock}
 use Rattle.rewriting.specs.Stores.{toldOutput}
-use Rattle.policy.specs.Judge.{ruled, judged}
-use Rattle.policy.proofs.Judging.{sending-late}
+use Rattle.verdicts.specs.Judge.{ruled, judged}
+use Rattle.verdicts.proofs.Judging.{sending-late}
 use Rattle.policy.proofs.Readings.{read-clean, has-found}
 use Rattle.policy.proofs.Leaving.{leaves-setting, leaves-length, leaves-fault, leaves-rule, leaves-output}
 use borrow.Author.Needs.{needs}

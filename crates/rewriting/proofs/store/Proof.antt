@@ -6,8 +6,8 @@ use lib.ListN.{length}
 use denote.Ref.{now}
 use Rattle.rules.specs.Attributes.{Attribute, attributes, encode}
 use Rattle.rules.specs.Changes.{rewritten}
-use Rattle.communities.specs.Tags.{dropTest, toldTag}
-use Rattle.rewriting.specs.Plan.{toldOtc}
+use Rattle.settings.specs.Told.{toldTag, toldOtc}
+use Rattle.communities.specs.Tags.{dropTest}
 use Rattle.rewriting.specs.Stores.{toldOutput}
 use Rattle.rewriting.proofs.Rooms.{no-room, too-long, stored-whole}
 use borrow.Author.Needs.{needs}

@@ -1,0 +1,103 @@
+// Answers as numbers, for callers in C and Rust: the answer number as the result, and through `beside` the number beside it.
+use rules::Advertised;
+use rules::Chosen;
+use rules::Opened;
+use rules::Received;
+use rules::Refusal;
+use rules::Stated;
+use settings::answers::refusal_number;
+ghost use mathlib.Core.Path.{_≡_};
+ghost use Rattle.rules.specs.Answers.{refused, number, answerNumber, besideNumber, toldOpened, toldReceived, toldAdvertised, toldStated};
+ghost use Rattle.rules.specs.Choice.{toldChosen, indexTold, leftTold};
+
+// The number beside a refusal; 0 where it has none.
+fn beside_number(refusal: Refusal) -> usize
+    ensures { λ r. ⌜ r ≡ besideNumber (refused refusal) ⌝ }
+{
+    match refusal {
+        Refusal::Ineligible(rule) => rule as usize,
+        Refusal::Withheld(rule) => rule as usize,
+        Refusal::Malformed(fault) => fault as usize,
+        Refusal::BadVrp(index) => index,
+        Refusal::BadCandidate(index) => index,
+        _ => 0,
+    }
+}
+
+// A refusal as numbers: its number as the result, and through `beside` the number beside it, 0 where it has none.
+pub fn report_refusal(refusal: Refusal, beside: &mut usize) -> u8
+    ensures { λ r. ⌜ (r ≡ number refusal) × (now (beside .exit) ≡ besideNumber (refused refusal)) ⌝ }
+{
+    *beside = beside_number(refusal);
+    refusal_number(refusal)
+}
+
+// An answer of opening as numbers: its number as the result, and through `beside` the number beside it, the remote role on answer 0.
+pub fn report_opened(answer: Opened, beside: &mut usize) -> u8
+    ensures { λ r. ⌜ (r ≡ answerNumber (toldOpened answer)) × (now (beside .exit) ≡ besideNumber (toldOpened answer)) ⌝ }
+{
+    match answer {
+        Opened::Role(role) => {
+            *beside = role as usize;
+            0
+        }
+        Opened::Refused(refusal) => report_refusal(refusal, beside),
+    }
+}
+
+// An answer of receipt as numbers: likewise, with the length on answer 0.
+pub fn report_received(answer: Received, beside: &mut usize) -> u8
+    ensures { λ r. ⌜ (r ≡ answerNumber (toldReceived answer)) × (now (beside .exit) ≡ besideNumber (toldReceived answer)) ⌝ }
+{
+    match answer {
+        Received::Block(length) => {
+            *beside = length;
+            0
+        }
+        Received::Refused(refusal) => report_refusal(refusal, beside),
+    }
+}
+
+// An answer of sending as numbers: likewise.
+pub fn report_advertised(answer: Advertised, beside: &mut usize) -> u8
+    ensures { λ r. ⌜ (r ≡ answerNumber (toldAdvertised answer)) × (now (beside .exit) ≡ besideNumber (toldAdvertised answer)) ⌝ }
+{
+    match answer {
+        Advertised::Block(length) => {
+            *beside = length;
+            0
+        }
+        Advertised::Refused(refusal) => report_refusal(refusal, beside),
+    }
+}
+
+// An answer that tells a state, as numbers: likewise, with the state on answer 0.
+pub fn report_stated(answer: Stated, beside: &mut usize) -> u8
+    ensures { λ r. ⌜ (r ≡ answerNumber (toldStated answer)) × (now (beside .exit) ≡ besideNumber (toldStated answer)) ⌝ }
+{
+    match answer {
+        Stated::State(state) => {
+            *beside = state as usize;
+            0
+        }
+        Stated::Refused(refusal) => report_refusal(refusal, beside),
+    }
+}
+
+// An answer of choosing as numbers: likewise, with the index on answer 0, and through `left` how many were left, 0 on a refusal.
+pub fn report_chosen(answer: Chosen, beside: &mut usize, left: &mut usize) -> u8
+    ensures { λ r. ⌜ (r ≡ answerNumber (toldChosen answer)) × (now (beside .exit) ≡ besideNumber (indexTold (toldChosen answer))) × (now (left .exit) ≡ leftTold (toldChosen answer)) ⌝ }
+{
+    *left = 0;
+    match answer {
+        Chosen::Route {
+            index,
+            left: remaining,
+        } => {
+            *beside = index;
+            *left = remaining;
+            0
+        }
+        Chosen::Refused(refusal) => report_refusal(refusal, beside),
+    }
+}

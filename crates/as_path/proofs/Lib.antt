@@ -1,0 +1,2 @@
+-- Laws of the segments of a path.
+pub mod Segments

@@ -1,0 +1,3 @@
+-- Laws of lines and of feeding pieces.
+pub mod Lining
+pub mod Feeding

@@ -1,0 +1,2 @@
+-- What the numbers that the code hands on stand for.
+pub mod Told

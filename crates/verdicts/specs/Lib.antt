@@ -1,0 +1,2 @@
+-- What the rules of receipt and sending come to as a number.
+pub mod Judge
