@@ -6,8 +6,8 @@ pub mod sizes;
 pub mod state;
 
 use frames::kept::Kept;
-use lines::answer_line;
 use input_lines::cut_line;
+use lines::answer_line;
 use rules::Session;
 use sizes::ANSWER_MAX;
 use state::Progress;

@@ -5,12 +5,12 @@ use mathlib.Core.Bool.{Bool, true, false, cond, not, _&&_, _||_}
 use mathlib.Core.List.{List, [], _∷_, _++_, foldl, map, map-append, flatMap}
 use native.Mathlib.Omega.{arith}
 use lib.Dec.{eqb}
-use lib.ListN.{length, take, drop, getD, List·getD-eq-default}
+use lib.ListN.{length, take, drop, getD}
 use lib.Seq.{getD-take}
 use borrow.Author.Tests.{ne-eqb}
 use Rattle.rules.specs.Bytes.{isEmpty, every, keep}
 use Rattle.rules.specs.Rows.{withItem, chop, chopUpTo, whole, tlv}
-use Rattle.rules.specs.Roles.{provider, rs, rsClient, customer, peer, capabilities, capabilityOk, isRole, parameterOk, parametersOk, rolesIn, counterpart, disagree}
+use Rattle.rules.specs.Roles.{capabilities, capabilityOk, isRole, parameterOk, parametersOk, rolesIn, counterpart, disagree}
 use Rattle.rules.proofs.Lists.{nil-of-length, is-empty-not, keep-append}
 use Rattle.rules.proofs.Rows.{fit-none, fit-some, chop-stop, chop-step}
 use Rattle.octets.proofs.Slices.{part-is, tail-is, item-value}

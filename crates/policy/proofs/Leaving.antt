@@ -1,6 +1,6 @@
 -- What a call promises by what the code finds in turn: the settings, the size, the fault, the rule, the block stored. One law for
 -- receipt and sending alike.
-use mathlib.Core.Path.{_≡_, refl, sym, ap, _∙_, subst}
+use mathlib.Core.Path.{_≡_, refl, sym, _∙_, subst}
 use mathlib.Core.Bool.{Bool, true, false}
 use mathlib.Core.List.{List, _++_}
 use Prim.Native.Nat.{ℕ, zero, suc}

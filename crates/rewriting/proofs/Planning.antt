@@ -2,7 +2,7 @@
 use mathlib.Core.Path.{_≡_, refl, sym, _∙_, ap, subst}
 use mathlib.Core.Bool.{Bool, true, false, cond, _||_, true≢false}
 use mathlib.Core.List.{List, [], _∷_, _++_, append-nil, flatMap}
-use Prim.Native.Nat.{ℕ, _+_, _-_, _≤_, _<_}
+use Prim.Native.Nat.{ℕ, _+_, _-_, _≤_}
 use native.Mathlib.Omega.{arith}
 use lib.Dec.{ltb, eqb}
 use lib.ListN.{length, drop, getD, length-append, length-drop, length-take, drop-of-length-le}
@@ -11,7 +11,6 @@ use borrow.Author.Tests.{eqb-true, eqb-false}
 use Rattle.rules.specs.Bytes.{exists, part}
 use Rattle.rules.specs.Rows.{fit}
 use Rattle.rules.specs.Attributes.{Attribute, attribute, attributes, attributeSize, lengthBytes, encode, encodeOne, isType, has, hasOtc, valueOf, readable}
-use Rattle.rules.specs.Settings.{blockMax}
 use Rattle.rules.specs.Changes.{dropFrom, rewritten}
 use Rattle.rules.proofs.Rows.{fit-le, fit-some}
 use Rattle.rules.proofs.Blocks.{All, Framed, all-map, size-front, encoded-pos}
@@ -25,7 +24,7 @@ use Rattle.attributes.specs.declared.layout.Layout.{Layout}
 use Rattle.attributes.proofs.Places.{place-le}
 use Rattle.attributes.proofs.Found.{value-of, has-of}
 use Rattle.communities.specs.Tags.{dropTest}
-use Rattle.rewriting.specs.Plan.{leftOf, communityBytes, newTagBytes, newOtcBytes, item, emitted, Whole, Leaving, PlanOk, Planned, ReadBlock, Sizing, turnedSize}
+use Rattle.rewriting.specs.Plan.{leftOf, communityBytes, newTagBytes, newOtcBytes, item, emitted, Leaving, PlanOk, Planned, ReadBlock, Sizing, turnedSize}
 use Rattle.rewriting.specs.declared.plan.Plan.{Plan}
 use Rattle.rewriting.proofs.Turned.{turnedAll}
 use Rattle.rewriting.proofs.Found.{pastCommunities, turned-none, Found, found, place-found, place-none, past-none, framed-middle, one-only, left-none, left-one}

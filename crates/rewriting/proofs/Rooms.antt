@@ -1,11 +1,10 @@
 -- What a caller is told of attributes that are to be stored, and what is left in the buffer.
-use mathlib.Core.Path.{_≡_, refl, ap, _∙_}
+use mathlib.Core.Path.{refl, ap, _∙_}
 use mathlib.Core.List.{List}
 use Prim.Native.Nat.{ℕ, _≤_, _<_}
 use native.Mathlib.Omega.{arith}
 use lib.ListN.{length}
 use borrow.Author.Tests.{lt-ltb, le-ltb}
-use Rattle.rules.specs.Bytes.{over}
 use Rattle.rules.specs.Answers.{done, refused, answer, order, first, number, sized, stored}
 use Rattle.rules.specs.Settings.{blockMax}
 use Rattle.rules.specs.Attributes.{Attribute, encode}

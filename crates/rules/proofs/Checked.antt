@@ -1,14 +1,13 @@
 -- The checks of a block, settings, size and fault, ahead of others that all go after them: what they answer, and that they say
 -- nothing where none of them applies.
-use mathlib.Core.Path.{_≡_, refl, sym, ap, _∙_}
-use mathlib.Core.Bool.{Bool, true, false, not, false≢true}
-use mathlib.Core.List.{List, [], _∷_, _++_}
+use mathlib.Core.Path.{_≡_, refl, ap, _∙_}
+use mathlib.Core.Bool.{Bool, true, false, false≢true}
+use mathlib.Core.List.{List, _++_}
 use Prim.Native.Nat.{ℕ, _≤_, _<_}
-use lib.Dec.{eqb}
 use lib.ListN.{length}
 use borrow.Author.Tests.{lt-ltb, le-ltb}
 use Rattle.rules.specs.Bytes.{exists, oneOf}
-use Rattle.rules.specs.Answers.{Answer, done, refused, Check, _when_, number, order, answer}
+use Rattle.rules.specs.Answers.{refused, Check, number, order, answer}
 use Rattle.rules.specs.Settings.{blockMax}
 use Rattle.rules.specs.Attributes.{fault, readable}
 use Rattle.rules.specs.Changes.{blockChecks}

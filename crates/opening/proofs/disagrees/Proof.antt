@@ -1,35 +1,25 @@
 use borrow.Author.Needs.{needs}
 use Rattle.opening.proofs.disagrees.Statement.{statement}
 use Rattle.opening.proofs.disagrees.Tie as tie
-use Rattle.opening.proofs.disagrees.Reads as reads
-use Rattle.opening.proofs.disagrees.Lts as lts
-use Rattle.settings.proofs.roles.remote_role.Reads as remote-role-reads
 
--- src/lib.rt:102:25
 enum-told : tie.Need-enum-told
 enum-told c = search needs
 
--- src/lib.rt:103:19
 enum-known-seen : tie.Need-enum-known-seen
 enum-known-seen c = search needs
 
--- src/lib.rt:103:36
 remote-role-requires : tie.Need-remote-role-requires
 remote-role-requires c κs = search needs
 
--- src/lib.rt:104:26
 enum-told-2 : tie.Need-enum-told-2
 enum-told-2 c = search needs
 
--- src/lib.rt:98:1
 returns : tie.Need-returns
 returns c = rw (c .enum-told .given .1)
 
--- src/lib.rt:98:1
 returns-2 : tie.Need-returns-2
 returns-2 c = simp (c .before .before .seen .given .1, c .remote-role .ensures)
 
--- src/lib.rt:98:1
 returns-3 : tie.Need-returns-3
 returns-3 c = search needs
 

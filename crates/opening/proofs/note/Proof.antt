@@ -2,34 +2,25 @@ use borrow.Author.Tests.{eq-eqb, ne-eqb}
 use borrow.Author.Needs.{needs}
 use Rattle.opening.proofs.note.Statement.{statement}
 use Rattle.opening.proofs.note.Tie as tie
-use Rattle.opening.proofs.note.Reads as reads
-use Rattle.opening.proofs.note.Lts as lts
 
--- src/lib.rt:48:25
 enum-told : tie.Need-enum-told
 enum-told c = search needs
 
--- src/lib.rt:49:19
 enum-known-seen : tie.Need-enum-known-seen
 enum-known-seen c = search needs
 
--- src/lib.rt:50:26
 enum-told-2 : tie.Need-enum-told-2
 enum-told-2 c = search needs
 
--- src/lib.rt:44:1
 returns : tie.Need-returns
 returns c = rw (c .enum-told .given .1)
 
--- src/lib.rt:44:1
 returns-2 : tie.Need-returns-2
 returns-2 c = rw (c .before .before .seen .given .1, eq-eqb _ _ (c .if1 .taken))
 
--- src/lib.rt:44:1
 returns-3 : tie.Need-returns-3
 returns-3 c = rw (c .before .before .seen .given .1, ne-eqb _ _ (c .if1 .left))
 
--- src/lib.rt:44:1
 returns-4 : tie.Need-returns-4
 returns-4 c = search needs
 
