@@ -1,6 +1,6 @@
 -- What a call promises by what the code finds in turn: the settings, the size, the fault, the rule, the block stored. One law for
 -- receipt and sending alike.
-use mathlib.Core.Path.{_≡_, refl, sym, _∙_, subst}
+use mathlib.Core.Path.{_≡_, refl, sym, ap, _∙_, subst}
 use mathlib.Core.Bool.{Bool, true, false}
 use mathlib.Core.List.{List, _++_}
 use Prim.Native.Nat.{ℕ, zero, suc}
@@ -61,11 +61,12 @@ module _ (ok : Bool) (b : List ℕ) (rules : List Check) (late : Late rules) (m 
               let d = answer-says order rules 0 (refusal (suc k)) (told k a) in
               leaves-refused before (by-rules w ∙ answer-decided order m (d .0) (d .1))
 
-      -- None does, and the result was stored, or there was no room for it.
-      pub leaves-output : k ≡ 0 → {told : Answer ℕ} {after : List ℕ} → Leaves (done m) before told after → Leaves verdict before told after
-      leaves-output z {told} {after} p =
+      -- None does, and what was made, which is the result, was stored, or there was no room for it.
+      pub leaves-output : k ≡ 0 → {made : List Attribute} → made ≡ m → {told : Answer ℕ} {after : List ℕ} → Leaves (done made) before told after
+          → Leaves verdict before told after
+      leaves-output z e {told} {after} p =
           let d = answer-done order rules 0 0 (a ∙ none) in
-          subst (λ (x : Answer (List Attribute)). Leaves x before told after) (sym (by-rules w ∙ answer-passed order rules m (d .1))) p
+          subst (λ (x : Answer (List Attribute)). Leaves x before told after) (ap done e ∙ sym (by-rules w ∙ answer-passed order rules m (d .1))) p
         where
           none : ruled refusal k ≡ done 0
           none = unfold ruled in rw z refl

@@ -204,15 +204,20 @@ fn set_value(
     }
 }
 
-// A path with one byte that may be wrong: a segment type, a count, a part of an ASN, or the last one missing.
+// A path with one byte that may be wrong (a segment type, a count, a part of an ASN, or the last one missing), or with a segment
+// of no AS ahead of the others, among them or last.
 fn faulty_path(random: &mut Random) -> Vec<u8> {
     let mut path = [vec![2, 1, 0, 0, 0, 1], as_path(random)].concat();
-    match random.below(5) {
+    match random.below(6) {
         0 => path[0] = random.pick(&[0, 1, 3, 4, 255]),
         1 => path[1] = random.pick(&[0, 2, 3, 255]),
         2 => path[5] = 0,
         3 => drop(path.pop()),
-        _ => path.push(2),
+        4 => path.push(2),
+        _ => {
+            let at = random.pick(&[0, 6, path.len()]);
+            drop(path.splice(at..at, [random.pick(&[1, 2]), 0]));
+        }
     }
     path
 }

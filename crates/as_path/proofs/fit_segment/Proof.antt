@@ -1,3 +1,4 @@
+-- `fit_segment` meets its contract: a segment is two bytes and four for each AS of its count.
 use denote.Ref.{now}
 use mathlib.Core.Path.{sym}
 use native.Mathlib.Omega.{arith}

@@ -1,3 +1,4 @@
+-- `disagrees` meets its contract, by what was met.
 use borrow.Author.Needs.{needs}
 use Rattle.opening.proofs.disagrees.Statement.{statement}
 use Rattle.opening.proofs.disagrees.Tie as tie

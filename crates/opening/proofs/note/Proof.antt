@@ -1,3 +1,4 @@
+-- `note` meets its contract, by what was met before.
 use borrow.Author.Tests.{eq-eqb, ne-eqb}
 use borrow.Author.Needs.{needs}
 use Rattle.opening.proofs.note.Statement.{statement}

@@ -1,3 +1,4 @@
+-- `open_session` meets its contract: each way out by its law, in the order of answers.
 use native.Mathlib.Omega.{arith}
 use mathlib.Core.Path.{sym, _∙_, ap}
 use denote.Ref.{now}

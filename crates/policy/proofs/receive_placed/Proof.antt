@@ -2,6 +2,7 @@
 use mathlib.Core.Path.{_≡_, sym, ap, _∙_}
 use mathlib.Core.Bool.{Bool, true}
 use mathlib.Core.List.{List}
+use mathlib.Core.Option.{Option, none}
 use Prim.Native.Nat.{ℕ}
 use denote.Ref.{now}
 use lib.Dec.{leb}
@@ -10,7 +11,7 @@ use borrow.Author.Tests.{not-true, not-false}
 use Rattle.rules.specs.Answers.{Check}
 use Rattle.rules.specs.Settings.{blockMax, sessionOk}
 use Rattle.rules.specs.Attributes.{Attribute, attributes}
-use Rattle.rules.specs.Changes.{Leaves}
+use Rattle.rules.specs.Changes.{isTag, newFlags, rewritten, Leaves}
 use Rattle.rules.specs.Receipt.{receiptRules, receiptResult, receiptVerdict}
 use Rattle.rules.specs.declared.Refusal.the-variants.{Ineligible}
 use Rattle.rules.proofs.Checked.{Late}
@@ -74,7 +75,7 @@ output c =
     let r = q .before .before .before .before in
     let s = start r in
     leaves-output (ok s) (block s) (rules s) (late s) (result s) (now (s .args .out)) (valid (r .before .before .before .before .before)) (clean r) (λ k. Ineligible k) (q .receipt-rule .result) (found q) (o .before .if3 .left)
-    (rw (o .received-otc .ensures) at (c .store .ensures))
+    (ap (λ (otc : Option ℕ). rewritten isTag newFlags none otc (attributes (block s))) (o .received-otc .ensures)) (c .store .ensures)
 
 returns : tie.Need-returns
 unfolding toldPlaced receiptVerdict

@@ -1,7 +1,8 @@
 -- `send` meets its contract: each way out by its law, in the order of answers.
-use mathlib.Core.Path.{_≡_, sym, _∙_}
+use mathlib.Core.Path.{_≡_, sym, ap₂, _∙_}
 use mathlib.Core.Bool.{Bool, true, _&&_}
 use mathlib.Core.List.{List}
+use mathlib.Core.Option.{Option}
 use Prim.Native.Nat.{ℕ}
 use denote.Ref.{now}
 use lib.Dec.{leb}
@@ -10,7 +11,7 @@ use borrow.Author.Tests.{not-true, not-false}
 use Rattle.rules.specs.Answers.{Check, toldAdvertised}
 use Rattle.rules.specs.Settings.{blockMax, sessionOk, sourceOk, stateOk}
 use Rattle.rules.specs.Attributes.{Attribute, attributes}
-use Rattle.rules.specs.Changes.{Leaves}
+use Rattle.rules.specs.Changes.{isTag, newFlags, rewritten, Leaves}
 use Rattle.rules.specs.Sending.{sendingRules, sendingResult, sendingVerdict}
 use Rattle.rules.specs.declared.Refusal.the-variants.{Withheld}
 use Rattle.rules.proofs.Lists.{and-left}
@@ -70,7 +71,8 @@ output c =
     let r = q .before .before in
     let s = start r in
     leaves-output (ok s) (block s) (rules s) (late s) (result s) (now (s .args .out)) (valid (r .before .before .before .before .before)) (clean r) (λ k. Withheld k) (q .sending-rule .result) (found q) (o .before .before .if3 .left)
-    (rw (o .before .sent-tag .ensures, o .sent-otc .ensures) at (c .store .ensures))
+    (ap₂ (λ (tag otc : Option ℕ). rewritten isTag newFlags tag otc (attributes (block s))) (o .before .sent-tag .ensures) (o .sent-otc .ensures))
+    (c .store .ensures)
 
 returns : tie.Need-returns
 unfolding toldAdvertised sendingVerdict

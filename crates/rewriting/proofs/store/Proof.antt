@@ -1,3 +1,4 @@
+-- `store` meets its contract: the plan, and then room for it or none.
 use mathlib.Core.Path.{_≡_, ap, _∙_}
 use mathlib.Core.List.{List}
 use native.Mathlib.Omega.{arith}

@@ -1,3 +1,4 @@
+-- `new_otc_size` meets its contract: seven bytes, or none.
 use mathlib.Core.Path.{refl}
 use native.Mathlib.Omega.{arith}
 use Rattle.rules.specs.Bytes.{bytes4}

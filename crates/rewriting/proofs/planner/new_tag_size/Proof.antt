@@ -1,3 +1,4 @@
+-- `new_tag_size` meets its contract: eleven bytes, or none.
 use mathlib.Core.Path.{refl}
 use native.Mathlib.Omega.{arith}
 use Rattle.rewriting.proofs.Pieces.{new-tag-left, new-tag-untold, new-tag-is}

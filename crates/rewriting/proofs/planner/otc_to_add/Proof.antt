@@ -1,3 +1,4 @@
+-- `otc_to_add` meets its contract: none where there is an OTC.
 use mathlib.Core.Path.{refl}
 use native.Mathlib.Omega.{arith}
 use borrow.Author.Tests.{lt-ltb, le-ltb}
