@@ -14,6 +14,11 @@ ghost use Rattle.rules.specs.Attributes.{segmentSize, segmentOk, segments, asPa
 ghost use Rattle.rules.specs.Origin.{originIn, finalOrigin, toldOrigin};
 ghost use Rattle.rules.specs.Choice.{pathLength};
 
+// Segment types (RFC 4271 section 4.3).
+const AS_SET: u8 = 1;
+
+const AS_SEQUENCE: u8 = 2;
+
 // The size of the segment that `s` begins with, or 0 where `s` is too short for it.
 fn fit_segment(s: &[u8]) -> usize
     ensures { λ r. ⌜ r ≡ fit segmentSize (now (s .entry)) ⌝ }
@@ -45,8 +50,8 @@ fn segment_ok(g: &[u8]) -> bool
     ensures { λ r. ⌜ r ≡ segmentOk (now (g .entry)) ⌝ }
 {
     let kind = g[0];
-    if kind != 1 {
-        if kind != 2 {
+    if kind != AS_SET {
+        if kind != AS_SEQUENCE {
             return false;
         }
     }
@@ -79,7 +84,7 @@ fn segment_length(g: &[u8]) -> usize
     requires { ⌜ 2 ≤ length (now g) ⌝ }
     ensures { λ r. ⌜ r ≡ pathLength (now (g .entry) ∷ []) ⌝ }
 {
-    if g[0] == 1 {
+    if g[0] == AS_SET {
         return 1;
     }
     wide(g[1])
@@ -107,7 +112,7 @@ fn final_origin(g: &[u8]) -> Origin
     requires { ⌜ length (now g) ≡ segmentSize (now g) ⌝ }
     ensures { λ r. ⌜ toldOrigin r ≡ finalOrigin (now (g .entry)) ⌝ }
 {
-    if g[0] != 2 {
+    if g[0] != AS_SEQUENCE {
         return Origin::NoAs;
     }
     if g.len() < 6 {

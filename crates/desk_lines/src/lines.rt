@@ -3,6 +3,7 @@ use super::state::State;
 use frames::answer_frame;
 use frames::keep_frame;
 use frames::reply::Reply;
+use input_lines::LINE_FEED;
 use octets::buffer::put;
 use octets::buffer::put_byte;
 use rules::Refusal;
@@ -21,13 +22,20 @@ ghost use Rattle.desk_lines.specs.Sizes.{answerMax};
 ghost use Rattle.frames.specs.Keeping.{Keeps, replied, Within, isDone};
 ghost use Rattle.desk_lines.specs.Machine.{Lent, Answered, shownAnswer};
 
+// The characters of a line that goes out, beside digits.
+const SPACE: u8 = 32;
+
+const DASH: u8 = 45;
+
+const ZERO: u8 = 48;
+
 // Stores a result of answer 0, in hex, or a dash where there is no byte to show. Internal.
 fn put_result(result: &[u8], out: &mut [u8], at: usize) -> usize
     requires { ⌜ (length (now result) ≤ resultMax) × (at + 2 * resultMax ≤ length (now out)) ⌝ }
     ensures { λ r. ⌜ (Stored (now (out .entry)) at (shownResult (done (now (result .entry)))) r (now (out .exit))) × (r ≤ at + 2 * resultMax) ⌝ }
 {
     if result.len() == 0 {
-        return put_byte(45, out, at);
+        return put_byte(DASH, out, at);
     }
     put_hex(result, out, at)
 }
@@ -40,11 +48,11 @@ fn put_reply(reply: Reply, made: &[u8], out: &mut [u8], at: usize) -> usize
     match reply {
         Reply::Refused(refusal) => {
             let w = put_decimal(refusal_number(refusal) as u64, out, at);
-            let dash = [32u8, 45];
+            let dash = [SPACE, DASH];
             put(&dash, out, w)
         }
         Reply::Bytes(n) => {
-            let zero = [48u8, 32];
+            let zero = [ZERO, SPACE];
             let w = put(&zero, out, at);
             put_result(&made[..n], out, w)
         }
@@ -57,9 +65,9 @@ fn put_line(number: u64, reply: Reply, made: &[u8], out: &mut [u8], at: usize) -
     ensures { λ r. ⌜ (Stored (now (out .entry)) at (outputLine number (replied (now (made .entry)) reply)) r (now (out .exit))) × (r ≤ at + answerMax) ⌝ }
 {
     let v = put_decimal(number, out, at);
-    let w = put_byte(32, out, v);
+    let w = put_byte(SPACE, out, v);
     let x = put_reply(reply, made, out, w);
-    put_byte(10, out, x)
+    put_byte(LINE_FEED, out, x)
 }
 
 // Whether an answer is 0.

@@ -8,6 +8,9 @@ ghost use Prim.Native.Nat.{_≤_};
 ghost use lib.ListN.{length, take};
 ghost use Rattle.input_lines.specs.Lines.{heldMax, LineEnd, Holds, Took};
 
+// What ends a line.
+pub const LINE_FEED: u8 = 10;
+
 // Of a line at most so many bytes are held: they tell that it is too long.
 pub const HELD_MAX: usize = DIGITS_MAX + 1;
 
@@ -24,7 +27,7 @@ fn line_end(s: &[u8]) -> usize
 {
     let mut i = 0;
     while i < s.len() {
-        if s[i] == 10 {
+        if s[i] == LINE_FEED {
             return i;
         }
         i += 1;
