@@ -9,9 +9,6 @@ use borrow.Author.Needs.{needs}
 use Rattle.opening.proofs.open_session.Statement.{statement}
 use Rattle.opening.proofs.open_session.Tie as tie
 
-opening-ok-requires : tie.Need-opening-ok-requires
-opening-ok-requires c κs = search needs
-
 returns : tie.Need-returns
 unfolding toldOpened
 returns c = open-setting (c .before .before .before .args .local-role) (c .before .before .before .args .strict) (now (c .before .before .before .args .parameters)) (sym (c .before .opening-ok .ensures) ∙ not-true _ (c .if1 .taken))
@@ -20,28 +17,13 @@ returns-2 : tie.Need-returns-2
 unfolding toldOpened
 returns-2 c = open-length (c .before .before .before .before .args .local-role) (c .before .before .before .before .args .strict) (now (c .before .before .before .before .args .parameters)) (sym (c .before .before .opening-ok .ensures) ∙ not-false _ (c .before .if1 .left)) (omega (arith, c .if2 .taken))
 
-read-parameters-requires : tie.Need-read-parameters-requires
-read-parameters-requires c κs = search needs
-
-enum-told : tie.Need-enum-told
-enum-told c = search needs
-
 returns-3 : tie.Need-returns-3
 unfolding toldOpened
 returns-3 c = open-malformed (c .before .before .before .before .before .before .before .args .local-role) (c .before .before .before .before .before .before .before .args .strict) (now (c .before .before .before .before .before .before .before .args .parameters)) (sym (c .before .before .before .before .before .opening-ok .ensures) ∙ not-false _ (c .before .before .before .before .if1 .left)) (omega (arith, c .before .before .before .if2 .left)) (c .before .before .read-parameters .ensures) (c .enum-told .given .1)
 
-enum-known-read : tie.Need-enum-known-read
-enum-known-read c = search needs
-
-disagrees-requires : tie.Need-disagrees-requires
-disagrees-requires c κs = search needs
-
 returns-4 : tie.Need-returns-4
 unfolding toldOpened
 returns-4 c = open-rejected (c .before .before .before .before .before .before .before .before .before .before .args .local-role) (c .before .before .before .before .before .before .before .before .before .before .args .strict) (now (c .before .before .before .before .before .before .before .before .before .before .args .parameters)) (sym (c .before .before .before .before .before .before .before .before .opening-ok .ensures) ∙ not-false _ (c .before .before .before .before .before .before .before .if1 .left)) (omega (arith, c .before .before .before .before .before .before .if2 .left)) (c .before .before .before .before .before .read-parameters .ensures) (c .before .before .before .read .given .1) (c .before .disagrees .ensures) (c .if3 .taken)
-
-remote-role-requires : tie.Need-remote-role-requires
-remote-role-requires c κs = search needs
 
 returns-5 : tie.Need-returns-5
 unfolding toldOpened
@@ -50,15 +32,4 @@ returns-5 c = ap done (c .remote-role .ensures) ∙ open-done (c .before .before
 pub open-session-spec : {M : Type 1} → statement M
 open-session-spec =
     tie.close
-    (tie.spec
-    opening-ok-requires
-    returns
-    returns-2
-    read-parameters-requires
-    enum-told
-    returns-3
-    enum-known-read
-    disagrees-requires
-    returns-4
-    remote-role-requires
-    returns-5)
+    (tie.spec (λ c κs. search needs) returns returns-2 (λ c κs. search needs) (λ c. search needs) returns-3 (λ c. search needs) (λ c κs. search needs) returns-4 (λ c κs. search needs) returns-5)
