@@ -6,12 +6,14 @@ use answers::report_received;
 use answers::report_stated;
 use choice::keys::Sender;
 use rules::Session;
+use vrps::prefixes::words6;
 ghost use mathlib.Core.Path.{_≡_};
+ghost use Prim.Native.Nat.{_+_, _*_, _^_};
 ghost use Rattle.rules.specs.Answers.{answerNumber, besideNumber};
 ghost use Rattle.rules.specs.Roles.{openSession};
 ghost use Rattle.rules.specs.Receipt.{receiptVerdict};
 ghost use Rattle.rules.specs.Sending.{sendingVerdict};
-ghost use Rattle.rules.specs.Origin.{ipv4, originState, receivedTag};
+ghost use Rattle.rules.specs.Origin.{ipv4, ipv6, originState, receivedTag};
 ghost use Rattle.rules.specs.Choice.{chooseIn, better, indexTold, leftTold};
 ghost use Rattle.c_api.specs.Numbers.{Reported};
 
@@ -85,6 +87,24 @@ pub extern "C" fn bgp_origin_state(
     ensures { λ r. ⌜ (r ≡ answerNumber (originState ipv4 «prefix_length» prefix «own_as» (now (table .entry)) (now (block .entry)))) × (now (beside .exit) ≡ besideNumber (originState ipv4 «prefix_length» prefix «own_as» (now (table .entry)) (now (block .entry)))) ⌝ }
 {
     let answer = origin::origin_state(prefix_length, prefix, own_as, table, block);
+    report_stated(answer, beside)
+}
+
+// The origin state of an IPv6 route, by a table of VRPs; the prefix is two numbers, that of its first eight bytes and that of its last.
+#[no_mangle]
+pub extern "C" fn bgp_origin_state6(
+    prefix_length: u8,
+    prefix_high: u64,
+    prefix_low: u64,
+    own_as: u32,
+    table: &[u8],
+    block: &[u8],
+    beside: &mut usize,
+) -> u8
+    ensures { λ r. ⌜ (r ≡ answerNumber (originState ipv6 «prefix_length» («prefix_high» * 2 ^ 64 + «prefix_low») «own_as» (now (table .entry)) (now (block .entry)))) × (now (beside .exit) ≡ besideNumber (originState ipv6 «prefix_length» («prefix_high» * 2 ^ 64 + «prefix_low») «own_as» (now (table .entry)) (now (block .entry)))) ⌝ }
+{
+    let prefix = words6(prefix_high, prefix_low);
+    let answer = origin::origin_state6(prefix_length, prefix, own_as, table, block);
     report_stated(answer, beside)
 }
 

@@ -6,15 +6,13 @@ use native.Mathlib.Omega.{arith}
 use mathlib.Core.List.{List}
 use lib.ListN.{length, take, drop}
 use lib.Seq.{take-all}
-use Rattle.rules.specs.Bytes.{exists}
-use Rattle.rules.specs.Rows.{chop, chopUpTo}
-use Rattle.rules.specs.Origin.{vrps}
 use Rattle.octets.proofs.Slices.{tail-length}
 use Rattle.desk_lines.specs.declared.state.Progress.{Progress}
 use Rattle.desk_lines.specs.declared.state.State.{State}
 use Rattle.input_lines.specs.Lines.{heldMax}
 use Rattle.input_lines.proofs.Lining.{holds-none}
-use Rattle.frames.specs.Sizes.{tableMax}
+use Rattle.desk_memory.specs.Sizes.{tablesMax}
+use Rattle.desk_memory.proofs.ByKind.{keeps-none}
 use Rattle.desk_lines.specs.Machine.{begun, emptied, Ready, Consumed, Progressed, HandedOver}
 use Rattle.desk_lines.proofs.Feeding.{consumed-none, consumed-then, consumed-emptied, taken-next}
 
@@ -54,7 +52,6 @@ module _ {s s′ : State} {t l x t′ l′ : List ℕ} {at : ℕ} (H : Handing s
         empty = H .empty;
       }
 
-pub ready-begun : {s : State} {table line : List ℕ} → s ≡ begun → length table ≡ tableMax → length line ≡ heldMax → Ready s table line
-unfolding begun vrps chop chopUpTo exists
-ready-begun e t l =
-    rw e (record { holds = holds-none l; keeps = record { room = t; within = omega arith; whole = refl; good = refl } })
+pub ready-begun : {s : State} {tables line : List ℕ} → s ≡ begun → length tables ≡ tablesMax → length line ≡ heldMax → Ready s tables line
+unfolding begun
+ready-begun e t l = rw e (record { holds = holds-none l; keeps = keeps-none refl refl t })

@@ -6,8 +6,8 @@ use desk_lines::feed;
 use desk_lines::finish;
 use desk_lines::sizes::FRAME_MAX;
 use desk_lines::state::State;
+use desk_memory::sizes::TABLES_MAX;
 use frames::sizes::RESULT_MAX;
-use frames::sizes::TABLE_MAX;
 use input_lines::HELD_MAX;
 use libc::STDERR_FILENO;
 use libc::STDIN_FILENO;
@@ -47,18 +47,18 @@ fn hand_over(
     line: &mut [u8],
     raw: &mut [u8],
     made: &mut [u8],
-    table: &mut [u8],
+    tables: &mut [u8],
     out: &mut [u8],
 ) -> Handed
-    requires { ⌜ (Ready state (now table) (now line)) × (state .number + length (now piece) < 2 ^ 64)
+    requires { ⌜ (Ready state (now tables) (now line)) × (state .number + length (now piece) < 2 ^ 64)
         × (Lent (now raw) (now made) (now out) answerMax) × (state .wrote ≡ 0) ⌝ }
-    ensures { λ r. ⌜ HandedOver state (now (table .entry)) (now (line .entry)) (now (piece .entry))
-        (r .written) (r .state) (now (table .exit)) (now (line .exit)) ⌝ }
+    ensures { λ r. ⌜ HandedOver state (now (tables .entry)) (now (line .entry)) (now (piece .entry))
+        (r .written) (r .state) (now (tables .exit)) (now (line .exit)) ⌝ }
 {
     let mut at = 0;
     let mut now = state;
     while at < piece.len() {
-        let progress = feed(&piece[at..], now, line, raw, made, table, out);
+        let progress = feed(&piece[at..], now, line, raw, made, tables, out);
         at += progress.taken;
         let after = progress.state;
         let wrote = after.wrote;
@@ -107,7 +107,7 @@ fn main() {
     let mut line = [0u8; HELD_MAX];
     let mut raw = [0u8; FRAME_MAX];
     let mut made = [0u8; RESULT_MAX];
-    let mut table = [0u8; TABLE_MAX];
+    let mut tables = [0u8; TABLES_MAX];
     let mut out = [0u8; PIECE_MAX];
     let mut state = begin();
     let mut turns: u64 = 140737488355328;
@@ -127,7 +127,7 @@ fn main() {
             &mut line,
             &mut raw,
             &mut made,
-            &mut table,
+            &mut tables,
             &mut out,
         );
         if !handed.written {
@@ -136,6 +136,6 @@ fn main() {
         state = handed.state;
         turns -= 1;
     }
-    let wrote = finish(state, &line, &mut raw, &mut made, &mut table, &mut out);
+    let wrote = finish(state, &line, &mut raw, &mut made, &mut tables, &mut out);
     io::write_all(STDOUT_FILENO, &out[..wrote]);
 }

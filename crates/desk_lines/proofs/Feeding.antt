@@ -29,8 +29,8 @@ desk-capped =
     }
 
 -- Nothing is consumed.
-pub consumed-none : (s : State) (table line : List ℕ) → Ready s table line → Consumed s table line [] s table line
-consumed-none s table line r = record { said = []; feeds = feeds-none (turnOf s table) (take (s .held) line); ready = r; count = omega arith }
+pub consumed-none : (s : State) (tables line : List ℕ) → Ready s tables line → Consumed s tables line [] s tables line
+consumed-none s tables line r = record { said = []; feeds = feeds-none (turnOf s tables) (take (s .held) line); ready = r; count = omega arith }
 
 -- One piece after another.
 pub consumed-then : {s s′ s″ : State} {t l t′ l′ t″ l″ p q : List ℕ} → Consumed s t l p s′ t′ l′ → Consumed s′ t′ l′ q s″ t″ l″
@@ -53,9 +53,9 @@ pub taken-next : (at n : ℕ) (x : List ℕ) → take at x ++ take n (take (leng
 taken-next at n x = sym (take-add at n x ∙ ap (λ (q : List ℕ). take at x ++ take n q) (sym (tail-is x at)))
 
 -- Nothing is fed.
-fed-none : (s : State) (table line out : List ℕ) → Ready s table line → Fed s table line out [] s table line out
+fed-none : (s : State) (tables line out : List ℕ) → Ready s tables line → Fed s tables line out [] s tables line out
 unfolding consumed-none
-fed-none s table line out r = record { consumed = consumed-none s table line r; stored = stored-none out (s .wrote) refl }
+fed-none s tables line out r = record { consumed = consumed-none s tables line r; stored = stored-none out (s .wrote) refl }
 
 fed-then : {s s′ s″ : State} {t l o t′ l′ o′ t″ l″ o″ p q : List ℕ} → s .wrote ≤ length o
     → Fed s t l o p s′ t′ l′ o′ → Fed s′ t′ l′ o′ q s″ t″ l″ o″ → Fed s t l o (p ++ q) s″ t″ l″ o″
@@ -63,10 +63,10 @@ unfolding consumed-then
 fed-then h F G = record { consumed = consumed-then (F .consumed) (G .consumed); stored = stored-then h (F .stored) (G .stored) }
 
 -- What one cut took of a piece: it is held, or the line has ended and was answered.
-module _ (s : State) (table : List ℕ) {line piece line′ : List ℕ} {r : Cut} (R : Ready s table line) (t : Took line (s .held) piece r line′) where
+module _ (s : State) (tables : List ℕ) {line piece line′ : List ℕ} {r : Cut} (R : Ready s tables line) (t : Took line (s .held) piece r line′) where
   pub fed-held : (out : List ℕ) → s .wrote ≤ length out → r .ended ≡ false
-      → Progressed s table line out piece (record { taken = r .taken; state = record { number = s .number; held = r .held; wrote = s .wrote; kept = s .kept } })
-      table line′ out
+      → Progressed s tables line out piece (record { taken = r .taken; state = record { number = s .number; held = r .held; wrote = s .wrote; kept = s .kept } })
+      tables line′ out
   unfolding turnOf
   fed-held out h e =
       record {
@@ -75,7 +75,7 @@ module _ (s : State) (table : List ℕ) {line piece line′ : List ℕ} {r : Cut
               consumed =
                   record {
                     said = [];
-                    feeds = feeds-held desk-capped (turnOf s table) (R .holds) t e;
+                    feeds = feeds-held desk-capped (turnOf s tables) (R .holds) t e;
                     ready = record { holds = t .holds; keeps = R .keeps };
                     count = omega arith;
                   };
@@ -86,8 +86,8 @@ module _ (s : State) (table : List ℕ) {line piece line′ : List ℕ} {r : Cut
         some = λ n k. t .some n;
       }
 
-  pub fed-answered : {out : List ℕ} {s′ : State} {table′ out′ : List ℕ} → s .wrote + answerMax ≤ length out → r .ended ≡ true
-      → Answered s table (take (r .held) line′) out s′ table′ out′ → Progressed s table line out piece (record { taken = r .taken; state = s′ }) table′ line′ out′
+  pub fed-answered : {out : List ℕ} {s′ : State} {tables′ out′ : List ℕ} → s .wrote + answerMax ≤ length out → r .ended ≡ true
+      → Answered s tables (take (r .held) line′) out s′ tables′ out′ → Progressed s tables line out piece (record { taken = r .taken; state = s′ }) tables′ line′ out′
   fed-answered h e A =
       let n : length (take (r .taken) piece) ≡ length (t .more) + 1 = ap length (t .ended e) ∙ length-append (t .more) (10 ∷ []) in
       record {
@@ -95,8 +95,8 @@ module _ (s : State) (table : List ℕ) {line piece line′ : List ℕ} {r : Cut
             record {
               consumed =
                   record {
-                    said = deskSays (turnOf s table) (take (r .held) line′);
-                    feeds = rw (A .next, A .held) (feeds-answered desk-capped (turnOf s table) (R .holds) t e);
+                    said = deskSays (turnOf s tables) (take (r .held) line′);
+                    feeds = rw (A .next, A .held) (feeds-answered desk-capped (turnOf s tables) (R .holds) t e);
                     ready = record { holds = rw (A .held) (holds-none (t .holds .size)); keeps = A .keeps };
                     count = omega (arith, A .number);
                   };
@@ -137,11 +137,11 @@ module _ {s s′ : State} {t l o x t′ l′ o′ : List ℕ} {at : ℕ} (F : Fe
       positive n f = omega (arith, f)
 
 -- The end of the input: nothing is held, or the line that has begun is answered.
-module _ (s : State) (table line : List ℕ) where
-  pub ended-none : s .held ≡ 0 → future s table line [] ≡ []
+module _ (s : State) (tables line : List ℕ) where
+  pub ended-none : s .held ≡ 0 → future s tables line [] ≡ []
   unfolding future
-  ended-none e = end-none deskSays deskNext (turnOf s table) line e
+  ended-none e = end-none deskSays deskNext (turnOf s tables) line e
 
-  pub ended-said : Ready s table line → (s .held ≡ 0 → ⊥) → future s table line [] ≡ deskSays (turnOf s table) (take (s .held) line)
+  pub ended-said : Ready s tables line → (s .held ≡ 0 → ⊥) → future s tables line [] ≡ deskSays (turnOf s tables) (take (s .held) line)
   unfolding future
-  ended-said r h = end-answers deskSays deskNext (turnOf s table) (r .holds) h
+  ended-said r h = end-answers deskSays deskNext (turnOf s tables) (r .holds) h

@@ -13,7 +13,7 @@ use Rattle.octets.proofs.Writing.{stored-front}
 use Rattle.input_lines.specs.Feeding.{Runs, finished as ended, fed}
 use Rattle.input_lines.proofs.Feeding.{run-says}
 use Rattle.desk_lines.specs.declared.state.State.{State}
-use Rattle.frames.specs.Keeping.{deskOf}
+use Rattle.desk_memory.specs.Keeping.{deskOf}
 use Rattle.desk_lines.specs.Machine.{deskSays, deskNext, turnOf, begun, future, Run, finished, consumed}
 
 -- The definition's fold over lines is the step's.
@@ -27,17 +27,17 @@ stored-said : {out said out′ : List ℕ} {w end : ℕ} → w ≡ 0 → Stored 
 stored-said e S = stored-front (omega (arith, e)) S ∙ rw e refl
 
 -- A run of the desk is one of its step: what is written is no part of what is to come.
-run-feeds : (s : State) (table line : List ℕ) (pieces : List (List ℕ)) (output : List ℕ) → Run s table line pieces output
-    → Runs deskSays deskNext (turnOf s table) (take (s .held) line) pieces output
+run-feeds : (s : State) (tables line : List ℕ) (pieces : List (List ℕ)) (output : List ℕ) → Run s tables line pieces output
+    → Runs deskSays deskNext (turnOf s tables) (take (s .held) line) pieces output
 unfolding future
-run-feeds _ _ _ _ _ (finished s table line out end out′ e S) =
-    subst (Runs deskSays deskNext (turnOf s table) (take (s .held) line) []) (sym (stored-said e S)) (ended (turnOf s table) (take (s .held) line))
-run-feeds _ _ _ _ _ (consumed s table line piece s′ table′ line′ pieces last c r) =
-    fed (turnOf s table) (take (s .held) line) piece (c .said) (turnOf s′ table′) (take (s′ .held) line′) pieces last (c .feeds)
-    (run-feeds s′ table′ line′ pieces last r)
+run-feeds _ _ _ _ _ (finished s tables line out end out′ e S) =
+    subst (Runs deskSays deskNext (turnOf s tables) (take (s .held) line) []) (sym (stored-said e S)) (ended (turnOf s tables) (take (s .held) line))
+run-feeds _ _ _ _ _ (consumed s tables line piece s′ tables′ line′ pieces last c r) =
+    fed (turnOf s tables) (take (s .held) line) piece (c .said) (turnOf s′ tables′) (take (s′ .held) line′) pieces last (c .feeds)
+    (run-feeds s′ tables′ line′ pieces last r)
 
 -- However the input is cut into pieces, what a run says is the definition's output.
-pub run-desk : (table line : List ℕ) (pieces : List (List ℕ)) (output : List ℕ) → Run begun table line pieces output → output ≡ desk (flatten pieces)
+pub run-desk : (tables line : List ℕ) (pieces : List (List ℕ)) (output : List ℕ) → Run begun tables line pieces output → output ≡ desk (flatten pieces)
 unfolding begun turnOf deskOf vrps chop chopUpTo desk newDesk
-run-desk table line pieces output r =
-    run-says (turnOf begun table) [] pieces output (run-feeds begun table line pieces output r) ∙ sym (desk-said 1 newDesk (lines (flatten pieces)))
+run-desk tables line pieces output r =
+    run-says (turnOf begun tables) [] pieces output (run-feeds begun tables line pieces output r) ∙ sym (desk-said 1 newDesk (lines (flatten pieces)))

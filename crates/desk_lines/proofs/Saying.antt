@@ -13,10 +13,11 @@ use Rattle.frames.specs.declared.reply.Reply.{Reply}
 use Rattle.frames.specs.declared.reply.Reply.the-variants.{Bytes, Refused}
 use Rattle.rules.specs.declared.Refusal.the-variants.{Unreadable}
 use Rattle.octets.specs.Buffer.{Stored}
-use Rattle.frames.specs.declared.kept.Kept.{Kept}
+use Rattle.desk_memory.specs.declared.kept.Kept.{Kept}
 use Rattle.desk_lines.specs.declared.state.State.{State}
 use Rattle.desk_lines.specs.Sizes.{answerMax}
-use Rattle.frames.specs.Keeping.{deskOf, Keeps, replied, Replies, isDone, wasDone}
+use Rattle.frames.specs.Replying.{replied, Replies, isDone, wasDone}
+use Rattle.desk_memory.specs.Keeping.{deskOf, Keeps}
 use Rattle.desk_lines.specs.Machine.{deskSays, deskNext, turnOf, shownAnswer, Answered}
 
 -- ---- A line out
@@ -42,10 +43,10 @@ line-parts n a =
 
 -- ---- A line answered
 
-module _ (s : State) (table line : List ℕ) {out out′ : List ℕ} {wrote : ℕ} where
-  pub answered-unreadable : false ≡ readableLine line → Keeps (s .kept .used) table
+module _ (s : State) (tables line : List ℕ) {out out′ : List ℕ} {wrote : ℕ} where
+  pub answered-unreadable : false ≡ readableLine line → Keeps (s .kept) tables
       → Stored out (s .wrote) (outputLine (s .number + 1) (refused Unreadable)) wrote out′ → wrote ≤ s .wrote + answerMax
-      → Answered s table line out (record { number = s .number + 1; held = 0; wrote = wrote; kept = s .kept }) table out′
+      → Answered s tables line out (record { number = s .number + 1; held = 0; wrote = wrote; kept = s .kept }) tables out′
   unfolding deskSays deskNext turnOf lineAnswer lineNext
   answered-unreadable e k S h =
       record {
@@ -58,11 +59,11 @@ module _ (s : State) (table line : List ℕ) {out out′ : List ℕ} {wrote : �
       }
 
   module _ (e : true ≡ readableLine line) {frame made : List ℕ} (f : frame ≡ fromHex line) {reply : Reply}
-      (R : Replies (frameAnswer (deskOf (s .kept) table) frame) made reply) where
-    pub answered-frame : {kept : Kept} {table′ : List ℕ}
-        → deskOf kept table′ ≡ frameNext (deskOf (s .kept) table) frame (frameAnswer (deskOf (s .kept) table) frame) → Keeps (kept .used) table′
+      (R : Replies (frameAnswer (deskOf (s .kept) tables) frame) made reply) where
+    pub answered-frame : {kept : Kept} {tables′ : List ℕ}
+        → deskOf kept tables′ ≡ frameNext (deskOf (s .kept) tables) frame (frameAnswer (deskOf (s .kept) tables) frame) → Keeps kept tables′
         → Stored out (s .wrote) (outputLine (s .number + 1) (replied made reply)) wrote out′ → wrote ≤ s .wrote + answerMax
-        → Answered s table line out (record { number = s .number + 1; held = 0; wrote = wrote; kept = kept }) table′ out′
+        → Answered s tables line out (record { number = s .number + 1; held = 0; wrote = wrote; kept = kept }) tables′ out′
     unfolding deskSays deskNext turnOf lineAnswer lineNext
     answered-frame n k S h =
         record {

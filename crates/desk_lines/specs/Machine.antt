@@ -15,7 +15,7 @@ use Rattle.desk_lines.specs.declared.state.Progress.{Progress}
 use Rattle.desk_lines.specs.declared.state.State.{State}
 use Rattle.frames.specs.Sizes.{resultMax}
 use Rattle.desk_lines.specs.Sizes.{frameMax, answerMax}
-use Rattle.frames.specs.Keeping.{deskOf, Keeps}
+use Rattle.desk_memory.specs.Keeping.{deskOf, Keeps}
 
 -- ---- From line to line
 
@@ -43,20 +43,20 @@ begun =
       number = 0;
       held = 0;
       wrote = 0;
-      kept = record { used = 0; live = false; session = record { «local_as» = 0; «remote_as» = 0; «local_role» = 0; mode = 0 } };
+      kept = record { used = 0; used6 = 0; live = false; session = record { «local_as» = 0; «remote_as» = 0; «local_role» = 0; mode = 0 } };
     }
 
 unfoldable pub turnOf : State → List ℕ → Turn
-turnOf s table = record { number = suc (s .number); desk = deskOf (s .kept) table }
+turnOf s tables = record { number = suc (s .number); desk = deskOf (s .kept) tables }
 
 -- What a desk in this state will give for the rest of its input.
 unfoldable pub future : State → List ℕ → List ℕ → List ℕ → List ℕ
-future s table line rest = saidFrom deskSays deskNext (turnOf s table) (lines (take (s .held) line ++ rest))
+future s tables line rest = saidFrom deskSays deskNext (turnOf s tables) (lines (take (s .held) line ++ rest))
 
--- The machine can go on: `line` holds the line that has begun, and the table is good.
-pub record Ready (s : State) (table line : List ℕ) : Type 0 where
+-- The machine can go on: `line` holds the line that has begun, and the tables is good.
+pub record Ready (s : State) (tables line : List ℕ) : Type 0 where
   pub holds : Holds line (s .held)
-  pub keeps : Keeps (s .kept .used) table
+  pub keeps : Keeps (s .kept) tables
 
 -- The memory lent for a frame and for a result has its size, and `out` has `room` bytes.
 pub record Lent (raw made out : List ℕ) (room : ℕ) : Type 0 where
@@ -67,30 +67,30 @@ pub record Lent (raw made out : List ℕ) (room : ℕ) : Type 0 where
 -- ---- Calls
 
 -- What answering a line promises: the line that goes out, and what is kept.
-pub record Answered (s : State) (table line out : List ℕ) (s′ : State) (table′ out′ : List ℕ) : Type 0 where
-  pub said : Stored out (s .wrote) (deskSays (turnOf s table) line) (s′ .wrote) out′
-  pub next : turnOf s′ table′ ≡ deskNext (turnOf s table) line
-  pub keeps : Keeps (s′ .kept .used) table′
+pub record Answered (s : State) (tables line out : List ℕ) (s′ : State) (tables′ out′ : List ℕ) : Type 0 where
+  pub said : Stored out (s .wrote) (deskSays (turnOf s tables) line) (s′ .wrote) out′
+  pub next : turnOf s′ tables′ ≡ deskNext (turnOf s tables) line
+  pub keeps : Keeps (s′ .kept) tables′
   pub number : s′ .number ≡ s .number + 1
   pub held : s′ .held ≡ 0
   pub room : s′ .wrote ≤ s .wrote + answerMax
 
 -- What taking some bytes in promises, wherever the answers are put: what they say and what the rest of the input will give are what
 -- all of it would.
-pub record Consumed (s : State) (table line piece : List ℕ) (s′ : State) (table′ line′ : List ℕ) : Type 0 where
+pub record Consumed (s : State) (tables line piece : List ℕ) (s′ : State) (tables′ line′ : List ℕ) : Type 0 where
   pub said : List ℕ
-  pub feeds : Feeds deskSays deskNext (turnOf s table) (take (s .held) line) piece said (turnOf s′ table′) (take (s′ .held) line′)
-  pub ready : Ready s′ table′ line′
+  pub feeds : Feeds deskSays deskNext (turnOf s tables) (take (s .held) line) piece said (turnOf s′ tables′) (take (s′ .held) line′)
+  pub ready : Ready s′ tables′ line′
   pub count : s′ .number ≤ s .number + length piece
 
 -- What feeding some bytes promises: they are consumed, and what they say is added to the output.
-pub record Fed (s : State) (table line out piece : List ℕ) (s′ : State) (table′ line′ out′ : List ℕ) : Type 0 where
-  pub consumed : Consumed s table line piece s′ table′ line′
+pub record Fed (s : State) (tables line out piece : List ℕ) (s′ : State) (tables′ line′ out′ : List ℕ) : Type 0 where
+  pub consumed : Consumed s tables line piece s′ tables′ line′
   pub stored : Stored out (s .wrote) (consumed .said) (s′ .wrote) out′
 
 -- What it promises of a piece: the bytes that it took were fed, at least one where there is room for an answer.
-pub record Progressed (s : State) (table line out piece : List ℕ) (r : Progress) (table′ line′ out′ : List ℕ) : Type 0 where
-  pub fed : Fed s table line out (take (r .taken) piece) (r .state) table′ line′ out′
+pub record Progressed (s : State) (tables line out piece : List ℕ) (r : Progress) (tables′ line′ out′ : List ℕ) : Type 0 where
+  pub fed : Fed s tables line out (take (r .taken) piece) (r .state) tables′ line′ out′
   pub within : r .taken ≤ length piece
   pub room : r .state .wrote ≤ length out
   pub some : 0 < length piece → s .wrote + answerMax ≤ length out → 0 < r .taken
@@ -101,9 +101,9 @@ emptied s = record { number = s .number; held = s .held; wrote = 0; kept = s .ke
 
 -- What handing a piece over promises: the machine is ready, with nothing left to write; where all was written, the whole piece is
 -- consumed.
-pub record HandedOver (s : State) (table line piece : List ℕ) (written : Bool) (s′ : State) (table′ line′ : List ℕ) : Type 0 where
-  pub whole : written ≡ true → Consumed s table line piece s′ table′ line′
-  pub ready : Ready s′ table′ line′
+pub record HandedOver (s : State) (tables line piece : List ℕ) (written : Bool) (s′ : State) (tables′ line′ : List ℕ) : Type 0 where
+  pub whole : written ≡ true → Consumed s tables line piece s′ tables′ line′
+  pub ready : Ready s′ tables′ line′
   pub empty : s′ .wrote ≡ 0
 
 -- ---- Runs
@@ -111,7 +111,7 @@ pub record HandedOver (s : State) (table line piece : List ℕ) (written : Bool)
 -- A run, of whose calls only the promises are known: pieces of any size are consumed in turn, and at the end of the input what is
 -- left is stored in `out`.
 pub data Run : State → List ℕ → List ℕ → List (List ℕ) → List ℕ → Type 0 where
-  finished : (s : State) (table line out : List ℕ) (end : ℕ) (out′ : List ℕ) → s .wrote ≡ 0
-      → Stored out (s .wrote) (future s table line []) end out′ → Run s table line [] (take end out′)
-  consumed : (s : State) (table line piece : List ℕ) (s′ : State) (table′ line′ : List ℕ) (pieces : List (List ℕ)) (last : List ℕ)
-      → (c : Consumed s table line piece s′ table′ line′) → Run s′ table′ line′ pieces last → Run s table line (piece ∷ pieces) (c .said ++ last)
+  finished : (s : State) (tables line out : List ℕ) (end : ℕ) (out′ : List ℕ) → s .wrote ≡ 0
+      → Stored out (s .wrote) (future s tables line []) end out′ → Run s tables line [] (take end out′)
+  consumed : (s : State) (tables line piece : List ℕ) (s′ : State) (tables′ line′ : List ℕ) (pieces : List (List ℕ)) (last : List ℕ)
+      → (c : Consumed s tables line piece s′ tables′ line′) → Run s′ tables′ line′ pieces last → Run s tables line (piece ∷ pieces) (c .said ++ last)

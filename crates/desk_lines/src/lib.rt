@@ -1,11 +1,11 @@
 // The desk's byte machine: takes input in pieces of any size, answers each line once it has ended, and carries a line that has
 // not over to the next piece (01, "The desk program"). All that it needs is lent: `line` for the line that has begun, `raw` for a
-// frame, `made` for a result, `table` for VRPs, and `out`, whose caller writes it out when it is full.
+// frame, `made` for a result, `tables` for the VRPs of both families, and `out`, whose caller writes it out when it is full.
 pub mod lines;
 pub mod sizes;
 pub mod state;
 
-use frames::kept::Kept;
+use desk_memory::kept::Kept;
 use input_lines::cut_line;
 use lines::answer_line;
 use rules::Session;
@@ -32,6 +32,7 @@ pub fn begin() -> State
     };
     let kept = Kept {
         used: 0,
+        used6: 0,
         live: false,
         session,
     };
@@ -50,19 +51,19 @@ fn feed_line(
     line: &mut [u8],
     raw: &mut [u8],
     made: &mut [u8],
-    table: &mut [u8],
+    tables: &mut [u8],
     out: &mut [u8],
 ) -> Progress
-    requires { ⌜ (Ready state (now table) (now line)) × (state .number + 1 < 2 ^ 64)
+    requires { ⌜ (Ready state (now tables) (now line)) × (state .number + 1 < 2 ^ 64)
         × (Lent (now raw) (now made) (now out) (state .wrote + answerMax)) ⌝ }
-    ensures { λ r. ⌜ Progressed state (now (table .entry)) (now (line .entry)) (now (out .entry))
-        (now (piece .entry)) r (now (table .exit)) (now (line .exit)) (now (out .exit)) ⌝ }
+    ensures { λ r. ⌜ Progressed state (now (tables .entry)) (now (line .entry)) (now (out .entry))
+        (now (piece .entry)) r (now (tables .exit)) (now (line .exit)) (now (out .exit)) ⌝ }
 {
     let cut = cut_line(piece, line, state.held);
     let taken = cut.taken;
     let held = cut.held;
     if cut.ended {
-        let state = answer_line(state, &line[..held], raw, made, table, out);
+        let state = answer_line(state, &line[..held], raw, made, tables, out);
         return Progress { taken, state };
     }
     let kept = state.kept;
@@ -76,20 +77,20 @@ fn feed_line(
 }
 
 // Takes the bytes of a piece, up to its end or until `out` may have no room for one more answer. What `raw` and `made` hold
-// afterwards, `line` past what is held and `table` past the VRPs, is of no account. Internal.
+// afterwards, `line` past what is held and `tables` past the VRPs, is of no account. Internal.
 pub fn feed(
     piece: &[u8],
     state: State,
     line: &mut [u8],
     raw: &mut [u8],
     made: &mut [u8],
-    table: &mut [u8],
+    tables: &mut [u8],
     out: &mut [u8],
 ) -> Progress
-    requires { ⌜ (Ready state (now table) (now line)) × (state .number + length (now piece) < 2 ^ 64)
+    requires { ⌜ (Ready state (now tables) (now line)) × (state .number + length (now piece) < 2 ^ 64)
         × (Lent (now raw) (now made) (now out) (state .wrote)) ⌝ }
-    ensures { λ r. ⌜ Progressed state (now (table .entry)) (now (line .entry)) (now (out .entry))
-        (now (piece .entry)) r (now (table .exit)) (now (line .exit)) (now (out .exit)) ⌝ }
+    ensures { λ r. ⌜ Progressed state (now (tables .entry)) (now (line .entry)) (now (out .entry))
+        (now (piece .entry)) r (now (tables .exit)) (now (line .exit)) (now (out .exit)) ⌝ }
 {
     let mut at = 0;
     let mut now = state;
@@ -98,7 +99,7 @@ pub fn feed(
         if out.len() - wrote < ANSWER_MAX {
             break;
         }
-        let progress = feed_line(&piece[at..], now, line, raw, made, table, out);
+        let progress = feed_line(&piece[at..], now, line, raw, made, tables, out);
         at += progress.taken;
         now = progress.state;
     }
@@ -114,18 +115,18 @@ pub fn finish(
     line: &[u8],
     raw: &mut [u8],
     made: &mut [u8],
-    table: &mut [u8],
+    tables: &mut [u8],
     out: &mut [u8],
 ) -> usize
-    requires { ⌜ (Ready state (now table) (now line)) × (state .number + 1 < 2 ^ 64)
+    requires { ⌜ (Ready state (now tables) (now line)) × (state .number + 1 < 2 ^ 64)
         × (Lent (now raw) (now made) (now out) (state .wrote + answerMax)) ⌝ }
-    ensures { λ r. ⌜ (Stored (now (out .entry)) (state .wrote) (future state (now (table .entry)) (now (line .entry)) []) r (now (out .exit)))
+    ensures { λ r. ⌜ (Stored (now (out .entry)) (state .wrote) (future state (now (tables .entry)) (now (line .entry)) []) r (now (out .exit)))
         × (r ≤ state .wrote + answerMax) ⌝ }
 {
     let held = state.held;
     if held == 0 {
         return state.wrote;
     }
-    let answered = answer_line(state, &line[..held], raw, made, table, out);
+    let answered = answer_line(state, &line[..held], raw, made, tables, out);
     answered.wrote
 }

@@ -1,7 +1,7 @@
 // One line: read, answered, and the line that goes out (01, "The desk program").
 use super::state::State;
-use frames::answer_frame;
-use frames::keep_frame;
+use desk_memory::answer_frame;
+use desk_memory::keep_frame;
 use frames::reply::Reply;
 use input_lines::LINE_FEED;
 use octets::buffer::put;
@@ -19,7 +19,8 @@ ghost use Rattle.rules.specs.Desk.{shownResult, outputLine};
 ghost use Rattle.octets.specs.Buffer.{Stored};
 ghost use Rattle.frames.specs.Sizes.{resultMax};
 ghost use Rattle.desk_lines.specs.Sizes.{answerMax};
-ghost use Rattle.frames.specs.Keeping.{Keeps, replied, Within, isDone};
+ghost use Rattle.frames.specs.Replying.{replied, Within, isDone};
+ghost use Rattle.desk_memory.specs.Keeping.{Keeps};
 ghost use Rattle.desk_lines.specs.Machine.{Lent, Answered, shownAnswer};
 
 // The characters of a line that goes out, beside digits.
@@ -86,11 +87,11 @@ pub fn answer_line(
     line: &[u8],
     raw: &mut [u8],
     made: &mut [u8],
-    table: &mut [u8],
+    tables: &mut [u8],
     out: &mut [u8],
 ) -> State
-    requires { ⌜ (state .number + 1 < 2 ^ 64) × (Keeps (state .kept .used) (now table)) × (Lent (now raw) (now made) (now out) (state .wrote + answerMax)) ⌝ }
-    ensures { λ r. ⌜ Answered state (now (table .entry)) (now (line .entry)) (now (out .entry)) r (now (table .exit)) (now (out .exit)) ⌝ }
+    requires { ⌜ (state .number + 1 < 2 ^ 64) × (Keeps (state .kept) (now tables)) × (Lent (now raw) (now made) (now out) (state .wrote + answerMax)) ⌝ }
+    ensures { λ r. ⌜ Answered state (now (tables .entry)) (now (line .entry)) (now (out .entry)) r (now (tables .exit)) (now (out .exit)) ⌝ }
 {
     let number = state.number + 1;
     let at = state.wrote;
@@ -105,9 +106,9 @@ pub fn answer_line(
         };
     }
     let frame = &raw[..line.len() / 2];
-    let reply = answer_frame(kept, table, frame, made);
+    let reply = answer_frame(kept, tables, frame, made);
     let wrote = put_line(number, reply, made, out, at);
-    let kept = keep_frame(kept, frame, is_done(reply), table);
+    let kept = keep_frame(kept, frame, is_done(reply), tables);
     State {
         number,
         held: 0,

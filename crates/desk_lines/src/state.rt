@@ -1,5 +1,5 @@
 // The desk's byte machine between calls.
-use frames::kept::Kept;
+use desk_memory::kept::Kept;
 
 // How many lines have ended, how many bytes are held of the one that has begun, how many bytes of `out` are written, and what the
 // desk keeps.

@@ -1,5 +1,5 @@
 -- The answers of frames: what each way out of a frame's function replies is what the definition answers.
-use Prim.Native.Nat.{ℕ, suc, _+_, _-_, _≤_, _<_}
+use Prim.Native.Nat.{ℕ, suc, _+_, _-_, _/_, _≤_, _<_}
 use mathlib.Core.Path.{_≡_, refl, sym, ap, _∙_, subst}
 use mathlib.Core.Bool.{true, false, false≢true}
 use mathlib.Core.List.{List, [], _∷_, _++_}
@@ -15,7 +15,7 @@ use Rattle.rules.specs.Attributes.{Attribute, attributes, encode, readable, val
 use Rattle.rules.specs.Changes.{blockChecks, noRoom, fitted, Leaves}
 use Rattle.rules.specs.Receipt.{receiptRules, receiptResult, receiptVerdict, receive}
 use Rattle.rules.specs.Sending.{sendingVerdict, send}
-use Rattle.rules.specs.Origin.{ipv4, vrps, stateIn, originIn, originAs}
+use Rattle.rules.specs.Origin.{vrps, stateIn, originIn, originAs}
 use Rattle.rules.specs.Desk.{sessionIn, sessionFrame, receiptFrame, sendingFrame}
 use Rattle.rules.specs.declared.Refusal.{Refusal}
 use Rattle.rules.specs.declared.Refusal.the-variants.{BadSetting, NoRoom, Unreadable}
@@ -26,7 +26,7 @@ use Rattle.rules.proofs.Buffers.{fitted-fits, leaves-alone}
 use Rattle.attributes.specs.Layout.{layout, valueAt}
 use Rattle.attributes.proofs.Found.{value-of}
 use Rattle.frames.specs.Sizes.{resultMax}
-use Rattle.frames.specs.Keeping.{replied, Replies}
+use Rattle.frames.specs.Replying.{replied, Replies}
 
 pub replies-refused : {a : Answer (List ℕ)} (made : List ℕ) {r : Refusal} → a ≡ refused r → Replies a made (Refused r)
 unfolding replied
@@ -183,25 +183,25 @@ module _ (s : Session) (f made : List ℕ) where
 
 -- ---- Receipt
 
-module _ (s : Session) (table f : List ℕ) where
-  pub receipt-short : (made : List ℕ) → length f < 6 → Replies (receiptFrame s (vrps ipv4 table) f) made (Refused Unreadable)
+module _ (w : ℕ) (s : Session) (table f : List ℕ) where
+  pub receipt-short : (made : List ℕ) → length f < 2 + w / 8 → Replies (receiptFrame w s (vrps w table) f) made (Refused Unreadable)
   unfolding receiptFrame answer order first number
-  receipt-short made h = replies-refused made (rw (lt-ltb (length f) 6 h) refl)
+  receipt-short made h = replies-refused made (rw (lt-ltb (length f) (2 + w / 8) h) refl)
 
-  module _ (h : 6 ≤ length f) where
-    pub receipt-setting : (made : List ℕ) → prefixLengthOk ipv4 (getD f 1 0) ≡ false → Replies (receiptFrame s (vrps ipv4 table) f) made (Refused BadSetting)
+  module _ (h : 2 + w / 8 ≤ length f) where
+    pub receipt-setting : (made : List ℕ) → prefixLengthOk w (getD f 1 0) ≡ false → Replies (receiptFrame w s (vrps w table) f) made (Refused BadSetting)
     unfolding receiptFrame
     receipt-setting made q =
         replies-refused made
-        (rw (le-ltb (length f) 6 h, q) (through-setting (receive s (drop 6 f) blockMax) (receive-later s (drop 6 f) blockMax) _))
+        (rw (le-ltb (length f) (2 + w / 8) h, q) (through-setting (receive s (drop (2 + w / 8) f) blockMax) (receive-later s (drop (2 + w / 8) f) blockMax) _))
 
-    module _ (q : prefixLengthOk ipv4 (getD f 1 0) ≡ true) {b before after : List ℕ} (e : b ≡ drop 6 f) (k : length before ≡ blockMax)
+    module _ (q : prefixLengthOk w (getD f 1 0) ≡ true) {b before after : List ℕ} (e : b ≡ drop (2 + w / 8) f) (k : length before ≡ blockMax)
         {told : Answer ℕ} (p : Leaves (receiptVerdict s b) before told after) where
-      pub receipt-refused : (made : List ℕ) {r : Refusal} → told ≡ refused r → Replies (receiptFrame s (vrps ipv4 table) f) made (Refused r)
+      pub receipt-refused : (made : List ℕ) {r : Refusal} → told ≡ refused r → Replies (receiptFrame w s (vrps w table) f) made (Refused r)
       unfolding receiptFrame receive
       receipt-refused made {r} z =
           replies-refused made
-          (rw (le-ltb (length f) 6 h, q, ← e) (through-both (leaves-refused {decided = receiptVerdict s b} k p z) _))
+          (rw (le-ltb (length f) (2 + w / 8) h, q, ← e) (through-both (leaves-refused {decided = receiptVerdict s b} k p z) _))
 
       module _ {n : ℕ} (z : told ≡ done n) where
         stores : Stores (receiptVerdict s b) n after
@@ -212,17 +212,17 @@ module _ (s : Session) (table f : List ℕ) where
 
         -- The state is found by the AS_PATH that receipt has told of.
         module _ (clean : readable b ≡ true) {place : ℕ} (at : place ≡ layout (attributes b) .«as_path») {path : List ℕ} (v : path ≡ valueAt place b)
-            {prefix : ℕ} (pre : prefix ≡ bigEndian (part 2 4 f)) {state : ℕ}
-            (x : state ≡ stateIn ipv4 (vrps ipv4 table) prefix (getD f 1 0) (originIn (localAs s) (segments path))) where
-          receipt-is : receiptFrame s (vrps ipv4 table) f ≡ done (state ∷ stores .bytes)
+            {prefix : ℕ} (pre : prefix ≡ bigEndian (part 2 (w / 8) f)) {state : ℕ}
+            (x : state ≡ stateIn w (vrps w table) prefix (getD f 1 0) (originIn (localAs s) (segments path))) where
+          receipt-is : receiptFrame w s (vrps w table) f ≡ done (state ∷ stores .bytes)
           unfolding receiptFrame receive answer order first number refusals resultOr originAs layout
           receipt-is =
-              let i : fitted (receiptVerdict s (drop 6 f)) blockMax ≡ done (stores .bytes) = rw (← e) (stores .is) in
-              let o : path ≡ valueOf asPathType (attributes (drop 6 f)) = v ∙ rw (at, e) (value-of asPathType (drop 6 f) (rw (← e) clean)) in
-              rw (le-ltb (length f) 6 h, q, i, x, pre, o) refl
+              let i : fitted (receiptVerdict s (drop (2 + w / 8) f)) blockMax ≡ done (stores .bytes) = rw (← e) (stores .is) in
+              let o : path ≡ valueOf asPathType (attributes (drop (2 + w / 8) f)) = v ∙ rw (at, e) (value-of asPathType (drop (2 + w / 8) f) (rw (← e) clean)) in
+              rw (le-ltb (length f) (2 + w / 8) h, q, i, x, pre, o) refl
 
           pub receipt-done : (made rest : List ℕ) → length made ≡ resultMax
-              → Replies (receiptFrame s (vrps ipv4 table) f) (set (take 1 made ++ (after ++ rest)) 0 state) (Bytes (1 + n))
+              → Replies (receiptFrame w s (vrps w table) f) (set (take 1 made ++ (after ++ rest)) 0 state) (Bytes (1 + n))
           unfolding replied
           receipt-done [] rest l = absurd (omega arith)
           receipt-done (y ∷ m) rest l =

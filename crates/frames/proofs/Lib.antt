@@ -1,3 +1,3 @@
--- Laws of frames and of the table.
+-- Laws of frames, and of VRP frames.
 pub mod Framing
 pub mod Tabling

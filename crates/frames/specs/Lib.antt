@@ -1,3 +1,3 @@
--- The sizes of frames, what the desk keeps, and how it replies.
+-- The sizes of frames, and how they are replied to.
 pub mod Sizes
-pub mod Keeping
+pub mod Replying

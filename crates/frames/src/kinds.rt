@@ -1,11 +1,10 @@
 // Frames of each kind, answered (01, "The desk program"). Each function stores its result at the start of `made`, which its caller
 // lends, and answers how many bytes that is, or a refusal. All of it is internal: `answer_frame` calls it.
 use super::reply::Reply;
-use super::sizes::TABLE_MAX;
+use as_path::path_origin;
 use attributes::value;
 use octets::number4;
 use opening::open_session;
-use origin::path_state;
 use policy::placed::Placed;
 use policy::receive_placed;
 use policy::send;
@@ -14,28 +13,28 @@ use rules::BLOCK_MAX;
 use rules::Opened;
 use rules::Refusal;
 use rules::Session;
+use rules::VRPS_MAX;
 use settings::ranges::prefix_length_ok;
 use settings::ranges::session_ok;
-use vrps::IPV4;
-use vrps::VRP_SIZE;
+use vrp_tables::parts::scan_parts;
+use vrps::AFTER_PREFIX;
 use vrps::bad_vrp;
+use vrps::prefixes::words;
 ghost use mathlib.Core.Path.{_≡_};
-ghost use Prim.Native.Nat.{_≤_};
-ghost use lib.ListN.{length, take};
-ghost use Rattle.rules.specs.Origin.{ipv4, vrps};
+ghost use mathlib.Core.List.{List};
+ghost use Prim.Native.Nat.{_*_, _≤_};
+ghost use lib.ListN.{length};
+ghost use Rattle.rules.specs.Origin.{Vrp, vrpSize, vrps};
 ghost use Rattle.rules.specs.Desk.{sessionIn, sessionFrame, receiptFrame, sendingFrame, vrpFrame};
 ghost use Rattle.vrp_tables.specs.Scan.{GoodTable};
 ghost use Rattle.frames.specs.Sizes.{resultMax};
-ghost use Rattle.frames.specs.Keeping.{Keeps, Replies};
+ghost use Rattle.vrps.specs.Widths.{Whole};
+ghost use Rattle.frames.specs.Replying.{Replies};
 
-// The least bytes of a frame of each kind; a VRP frame has just so many.
+// The least bytes of a session frame and of a sending frame.
 const SESSION_MIN: usize = 12;
 
-const RECEIPT_MIN: usize = 6;
-
 const SENDING_MIN: usize = 3;
-
-pub const VRP_FRAME: usize = 1 + VRP_SIZE;
 
 // 01: local AS 4, remote AS 4, local role, strict, mode. Internal.
 pub fn session_in(frame: &[u8]) -> Session
@@ -73,28 +72,36 @@ pub fn session_frame(frame: &[u8], made: &mut [u8]) -> Reply
     }
 }
 
-// 02, receipt: prefix length, prefix 4, block; its result is the state, found after the verdict, and the block. Internal.
-pub fn receipt_frame(session: Session, table: &[u8], frame: &[u8], made: &mut [u8]) -> Reply
-    requires { ⌜ (GoodTable ipv4 (now table)) × (length (now made) ≡ resultMax) ⌝ }
-    ensures { λ r. ⌜ Replies (receiptFrame session (vrps ipv4 (now (table .entry))) (now (frame .entry))) (now (made .exit)) r ⌝ }
+// 02 and 12, receipt: prefix length, prefix of so many bits, block; its result is the state, found after the verdict, and the block.
+// Internal.
+pub fn receipt_frame(
+    width: usize,
+    session: Session,
+    table: &[u8],
+    frame: &[u8],
+    made: &mut [u8],
+) -> Reply
+    requires { ⌜ (Whole width) × (GoodTable width (now table)) × (length (now made) ≡ resultMax) ⌝ }
+    ensures { λ r. ⌜ Replies (receiptFrame width session (vrps width (now (table .entry))) (now (frame .entry))) (now (made .exit)) r ⌝ }
 {
-    if frame.len() < RECEIPT_MIN {
+    let head = 2 + width / 8;
+    if frame.len() < head {
         return Reply::Refused(Refusal::Unreadable);
     }
     let len = frame[1];
-    if !prefix_length_ok(IPV4, len) {
+    if !prefix_length_ok(width, len) {
         return Reply::Refused(Refusal::BadSetting);
     }
-    let block = &frame[RECEIPT_MIN..];
+    let block = &frame[head..];
     let placed = receive_placed(session, block, &mut made[1..]);
     match placed {
         Placed::Refused(refusal) => {
             return Reply::Refused(refusal);
         }
         Placed::Block { length, as_path } => {
-            let path = value(block, as_path);
-            let prefix = number4(&frame[2..RECEIPT_MIN]);
-            made[0] = path_state(len, prefix, session.local_as, table, path);
+            let origin = path_origin(value(block, as_path), session.local_as);
+            let prefix = words(&frame[2..head]);
+            made[0] = scan_parts(width, table, prefix, len, origin);
             Reply::Bytes(1 + length)
         }
     }
@@ -121,21 +128,23 @@ pub fn sending_frame(session: Session, frame: &[u8], made: &mut [u8]) -> Reply
     }
 }
 
-// 04, one VRP, where `used` bytes of the table hold those taken before; it has no result to show. Internal.
-pub fn vrp_frame(used: usize, table: &[u8], frame: &[u8], made: &[u8]) -> Reply
-    requires { ⌜ Keeps used (now table) ⌝ }
-    ensures { λ r. ⌜ Replies (vrpFrame (vrps ipv4 (take used (now (table .entry)))) (now (frame .entry))) (now (made .entry)) r ⌝ }
+// 04 and 14, one VRP with a prefix of so many bits, where `used` bytes of its table hold those taken before; it has no result to show.
+// Internal.
+pub fn vrp_frame(width: usize, used: usize, frame: &[u8], made: &[u8]) -> Reply
+    requires { ⌜ Whole width ⌝ }
+    ensures { λ r. ⌜ ((held : List Vrp) → used ≡ vrpSize width * length held → Replies (vrpFrame width held (now (frame .entry))) (now (made .entry)) r) ⌝ }
 {
-    if frame.len() < VRP_FRAME {
+    let size = width / 8 + AFTER_PREFIX;
+    if frame.len() < 1 + size {
         return Reply::Refused(Refusal::Unreadable);
     }
-    if VRP_FRAME < frame.len() {
+    if 1 + size < frame.len() {
         return Reply::Refused(Refusal::BadLength);
     }
-    if TABLE_MAX <= used {
+    if VRPS_MAX * size <= used {
         return Reply::Refused(Refusal::BadLength);
     }
-    if bad_vrp(&frame[1..VRP_FRAME]) {
+    if bad_vrp(width, &frame[1..]) {
         return Reply::Refused(Refusal::BadVrp(0));
     }
     Reply::Bytes(0)

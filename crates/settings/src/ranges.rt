@@ -53,11 +53,11 @@ fn source_ok(source: u8) -> bool
     source <= PEER || source == OWN_ROUTE
 }
 
-// "prefix length 0 to 32", where the width is that of a prefix in bits
-pub fn prefix_length_ok(width: u8, len: u8) -> bool
+// "prefix length 0 to 32", 02, Q-1: "0 to 128", where the width is that of a prefix in bits
+pub fn prefix_length_ok(width: usize, len: u8) -> bool
     ensures { λ r. ⌜ r ≡ prefixLengthOk width len ⌝ }
 {
-    len <= width
+    len as usize <= width
 }
 
 // "attribute block 4,073 bytes"
@@ -94,7 +94,7 @@ pub fn opening_ok(local_role: u8, strict: u8) -> bool
 }
 
 // The settings of a route's origin state: its length, and the caller's own AS.
-pub fn route_ok(width: u8, len: u8, own: u32) -> bool
+pub fn route_ok(width: usize, len: u8, own: u32) -> bool
     ensures { λ r. ⌜ r ≡ (prefixLengthOk width len && asOk own) ⌝ }
 {
     both(prefix_length_ok(width, len), as_ok(own))

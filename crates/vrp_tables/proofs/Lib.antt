@@ -1,3 +1,4 @@
--- Laws of the scan over a table, and of the table check.
+-- Laws of the scan over a table, of the table check, and of a table in parts.
 pub mod Scans
 pub mod Tables
+pub mod Parting

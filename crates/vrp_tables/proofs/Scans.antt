@@ -1,16 +1,20 @@
 -- The records of a table from a position on, and the scan over them. Over any width.
-use Prim.Native.Nat.{ℕ, _+_, _-_, _/_, _≤_, _<_}
+use Prim.Native.Nat.{ℕ, _+_, _-_, _/_, _%_, _≤_, _<_}
 use mathlib.Core.Path.{_≡_, refl, sym, ap, _∙_}
-use mathlib.Core.Bool.{Bool, true, false, cond, _||_, or-true, or-false, true≢false}
-use mathlib.Core.List.{List, [], _∷_, map}
+use mathlib.Core.Bool.{Bool, true, false, cond, _||_, or-true, or-false}
+use mathlib.Core.List.{List, [], _∷_, _++_, map, map-append, append-nil}
 use mathlib.Core.Option.{Option}
 use native.Mathlib.Omega.{arith}
-use borrow.Author.Tests.{eq-eqb, ne-eqb}
-use lib.Dec.{eqb}
-use lib.ListN.{length, take, drop}
+use borrow.Author.Tests.{eq-eqb, ne-eqb, leb-true, leb-false}
+use lib.Dec.{leb, eqb}
+use lib.ListN.{length, take, drop, take-append-drop, drop-of-length-le}
+use lib.Seq.{length-take-le, take-all}
 use Rattle.rules.specs.Bytes.{exists}
+use Rattle.rules.specs.Rows.{chop, by}
 use Rattle.rules.specs.Settings.{valid, notFound, invalid}
 use Rattle.rules.specs.Origin.{Vrp, vrp, vrpSize, vrps, badVrp, covers, matches, stateIn}
+use Rattle.rules.proofs.Lists.{neither}
+use Rattle.rules.proofs.Fixed.{items-append}
 use Rattle.octets.proofs.Positions.{items-next, items-end}
 use Rattle.vrps.specs.Weighing.{Good, weighed}
 use Rattle.vrp_tables.specs.Scan.{GoodTable, stateFrom}
@@ -26,6 +30,29 @@ module _ (w : ℕ) (table : List ℕ) (at : ℕ) where
   unfolding vrps
   vrps-end h = ap (map (vrp w)) (items-end (vrpSize w) table at h)
 
+-- A record by itself, and tables one after the other, the first of whole records.
+module _ (w : ℕ) where
+  pub size-pos : 0 < vrpSize w
+  unfolding vrpSize
+  size-pos = omega arith
+
+  pub vrps-none : vrps w [] ≡ []
+  vrps-none = vrps-end w [] 0 size-pos
+
+  pub vrps-append : (v s : List ℕ) → length v % vrpSize w ≡ 0 → vrps w (v ++ s) ≡ vrps w v ++ vrps w s
+  unfolding vrps
+  vrps-append v s z = ap (map (vrp w)) (items-append (vrpSize w) size-pos v s z) ∙ map-append (vrp w) (chop (by (vrpSize w)) v .items) (chop (by (vrpSize w)) s .items)
+
+  pub vrps-split : (s : List ℕ) (m : ℕ) → m % vrpSize w ≡ 0 → vrps w s ≡ vrps w (take m s) ++ vrps w (drop m s)
+  vrps-split s m z = go (leb m (length s)) refl
+    where
+      go : (x : Bool) → leb m (length s) ≡ x → vrps w s ≡ vrps w (take m s) ++ vrps w (drop m s)
+      go true e =
+          ap (vrps w) (sym (take-append-drop m s)) ∙ vrps-append (take m s) (drop m s) (ap (λ (n : ℕ). n % vrpSize w) (length-take-le m s (leb-true m (length s) e)) ∙ z)
+      go false e =
+          let l = leb-false m (length s) e in
+          sym (rw (take-all m s (omega arith), drop-of-length-le s {i = m} (omega arith), vrps-none) (append-nil (vrps w s)))
+
 -- A scan that has come to a position: no record from there on is bad, and with whether one before covers they give the state.
 pub record Scanning (w : ℕ) (table : List ℕ) (prefix len : ℕ) (origin : Option ℕ) (covered : Bool) (at : ℕ) : Type 0 where
   pub within : at ≤ length table
@@ -35,11 +62,7 @@ pub record Scanning (w : ℕ) (table : List ℕ) (prefix len : ℕ) (origin : Op
 -- Where no record is bad, the first is not, nor those after it.
 good-each : (w : ℕ) (v : Vrp) (l : List Vrp) → exists (badVrp w) (v ∷ l) ≡ false → (badVrp w v ≡ false) × (exists (badVrp w) l ≡ false)
 unfolding exists
-good-each w v l g = go (badVrp w v) g
-  where
-    go : (x : Bool) → x || exists (badVrp w) l ≡ false → (x ≡ false) × (exists (badVrp w) l ≡ false)
-    go true e = absurd (true≢false e)
-    go false e = (refl, e)
+good-each w v l g = neither (badVrp w v) (exists (badVrp w) l) g
 
 -- By what the first record is to the route: it matches, or those after it decide, with whether it covers.
 state-next : (w prefix len : ℕ) (origin : Option ℕ) (covered : Bool) (v : Vrp) (l : List Vrp) {met : ℕ} → met ≡ weighed w v prefix len origin

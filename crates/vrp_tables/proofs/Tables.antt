@@ -15,7 +15,7 @@ use Rattle.rules.specs.declared.Refusal.the-variants.{BadLength, BadVrp}
 use Rattle.rules.proofs.Lists.{Past, past-start, past-next, past-found, past-end}
 use Rattle.rules.proofs.Fixed.{whole-mod, not-whole-mod, whole-count}
 use Rattle.vrp_tables.specs.Table.{tableCheck}
-use Rattle.vrp_tables.proofs.Scans.{vrps-next, vrps-end}
+use Rattle.vrp_tables.proofs.Scans.{size-pos, vrps-next, vrps-end}
 
 -- The check of a table of right length that has come to a position: no record before it is bad, and those from there on are left.
 pub record Checking (w : ℕ) (table : List ℕ) (at : ℕ) : Type 0 where
@@ -23,10 +23,6 @@ pub record Checking (w : ℕ) (table : List ℕ) (at : ℕ) : Type 0 where
   pub few : length table ≤ vrpSize w * vrpsMax
   pub within : at ≤ length table
   pub past : Past (badVrp w) (vrps w table) (vrps w (drop at table)) (at / vrpSize w)
-
-size-pos : (w : ℕ) → 0 < vrpSize w
-unfolding vrpSize
-size-pos w = omega arith
 
 module _ (w : ℕ) (table : List ℕ) where
   -- A length that is no multiple of a record, and one of too many records.

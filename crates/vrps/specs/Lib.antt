@@ -1,2 +1,3 @@
--- What one VRP is to a route.
+-- The widths of prefixes, and what one VRP is to a route.
+pub mod Widths
 pub mod Weighing

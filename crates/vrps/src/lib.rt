@@ -1,23 +1,22 @@
-// VRP records: prefix, length, maximum length and ASN; covers, matches (RFC 6811 section 2; 01, "Origin state").
-use octets::number4;
+// VRP records: prefix, length, maximum length and ASN; covers, matches (RFC 6811 section 2; 01, "Origin state"; 02, Q-1). One code for
+// both families, with the width of their prefixes handed in.
+pub mod prefixes;
+
+use octets::number4_at;
+use octets::wide;
+use prefixes::IPV4;
+use prefixes::same_leading;
+use prefixes::same_prefix;
 use rules::Origin;
+use rules::Words;
 ghost use mathlib.Core.Path.{_≡_};
-ghost use Prim.Native.Nat.{_≤_};
 ghost use lib.ListN.{length};
-ghost use Rattle.rules.specs.Origin.{ipv4, vrp, badVrp, agree, covers, sameAs, toldOrigin};
+ghost use Rattle.rules.specs.Origin.{prefixIn, vrpSize, vrp, badVrp, covers, sameAs, toldOrigin};
+ghost use Rattle.vrps.specs.Widths.{Whole};
 ghost use Rattle.vrps.specs.Weighing.{Good, allowed, weighed};
 
-// The width of an IPv4 prefix in bits: "length ≤ maximum ≤ 32".
-pub const IPV4: u8 = 32;
-
-// "A VRP is 10 bytes: prefix 4, length, maximum length, ASN 4", and where the last three stand.
-pub const VRP_SIZE: usize = 10;
-
-const LENGTH_AT: usize = 4;
-
-const MAXIMUM_AT: usize = 5;
-
-const ASN_AT: usize = 6;
+// The bytes of a record after its prefix: length, maximum length, ASN 4.
+pub const AFTER_PREFIX: usize = 6;
 
 // What a VRP is to a route, as `weigh` says it.
 pub const APART: u8 = 0;
@@ -26,36 +25,34 @@ pub const COVERS: u8 = 1;
 
 pub const MATCHES: u8 = 2;
 
-// Whether a record is bad: its length above its maximum, or its maximum above 32. Internal.
-pub fn bad_vrp(bytes: &[u8]) -> bool
-    requires { ⌜ length (now bytes) ≡ 10 ⌝ }
-    ensures { λ r. ⌜ r ≡ badVrp ipv4 (vrp ipv4 (now (bytes .entry))) ⌝ }
+// Whether a record is bad: its length above its maximum, or its maximum above the width. Internal.
+pub fn bad_vrp(width: usize, bytes: &[u8]) -> bool
+    requires { ⌜ length (now bytes) ≡ vrpSize width ⌝ }
+    ensures { λ r. ⌜ r ≡ badVrp width (vrp width (now (bytes .entry))) ⌝ }
 {
-    if bytes[MAXIMUM_AT] < bytes[LENGTH_AT] {
+    let at = width / 8;
+    let most = bytes[at + 1];
+    if most < bytes[at] {
         return true;
     }
-    IPV4 < bytes[MAXIMUM_AT]
-}
-
-// Whether two prefixes agree in their n leading bits: nothing is left of where they differ without the bits after them. Internal.
-fn same_leading(a: u32, b: u32, n: u8) -> bool
-    requires { ⌜ n ≤ ipv4 ⌝ }
-    ensures { λ r. ⌜ r ≡ agree ipv4 n a b ⌝ }
-{
-    let after = IPV4 - n;
-    ((a ^ b) as u64) >> after == 0
+    width < wide(most)
 }
 
 // Whether a record that is not bad covers the route prefix/len. Internal.
-fn covering(bytes: &[u8], prefix: u32, len: u8) -> bool
-    requires { ⌜ (length (now bytes) ≡ 10) × Good ipv4 (now bytes) ⌝ }
-    ensures { λ r. ⌜ r ≡ covers ipv4 (vrp ipv4 (now (bytes .entry))) prefix len ⌝ }
+fn covering(width: usize, bytes: &[u8], prefix: Words, len: u8) -> bool
+    requires { ⌜ (Whole width) × (length (now bytes) ≡ vrpSize width) × Good width (now bytes) ⌝ }
+    ensures { λ r. ⌜ r ≡ covers width (vrp width (now (bytes .entry))) (prefixIn width prefix) len ⌝ }
 {
-    let n = bytes[LENGTH_AT];
+    let at = width / 8;
+    let n = bytes[at];
     if len < n {
         return false;
     }
-    same_leading(number4(&bytes[0..LENGTH_AT]), prefix, n)
+    // An IPv4 prefix is one word: there is nothing to walk.
+    if width == IPV4 {
+        return same_leading(number4_at(bytes, 0), prefix.first, n);
+    }
+    same_prefix(&bytes[..at], prefix, n)
 }
 
 // Whether a record's ASN is the origin's and not 0. A route with no origin has none. Internal.
@@ -72,25 +69,26 @@ fn same_as(asn: u32, origin: Origin) -> bool
 }
 
 // Whether a record that covers a route matches it. Internal.
-fn allows(bytes: &[u8], len: u8, origin: Origin) -> bool
-    requires { ⌜ length (now bytes) ≡ 10 ⌝ }
-    ensures { λ r. ⌜ r ≡ allowed (vrp ipv4 (now (bytes .entry))) len (toldOrigin origin) ⌝ }
+fn allows(width: usize, bytes: &[u8], len: u8, origin: Origin) -> bool
+    requires { ⌜ length (now bytes) ≡ vrpSize width ⌝ }
+    ensures { λ r. ⌜ r ≡ allowed (vrp width (now (bytes .entry))) len (toldOrigin origin) ⌝ }
 {
-    if bytes[MAXIMUM_AT] < len {
+    let at = width / 8;
+    if bytes[at + 1] < len {
         return false;
     }
-    same_as(number4(&bytes[ASN_AT..VRP_SIZE]), origin)
+    same_as(number4_at(bytes, at + 2), origin)
 }
 
 // What a record that is not bad is to a route. Internal.
-pub fn weigh(bytes: &[u8], prefix: u32, len: u8, origin: Origin) -> u8
-    requires { ⌜ (length (now bytes) ≡ 10) × Good ipv4 (now bytes) ⌝ }
-    ensures { λ r. ⌜ r ≡ weighed ipv4 (vrp ipv4 (now (bytes .entry))) prefix len (toldOrigin origin) ⌝ }
+pub fn weigh(width: usize, bytes: &[u8], prefix: Words, len: u8, origin: Origin) -> u8
+    requires { ⌜ (Whole width) × (length (now bytes) ≡ vrpSize width) × Good width (now bytes) ⌝ }
+    ensures { λ r. ⌜ r ≡ weighed width (vrp width (now (bytes .entry))) (prefixIn width prefix) len (toldOrigin origin) ⌝ }
 {
-    if !covering(bytes, prefix, len) {
+    if !covering(width, bytes, prefix, len) {
         return APART;
     }
-    if !allows(bytes, len, origin) {
+    if !allows(width, bytes, len, origin) {
         return COVERS;
     }
     MATCHES

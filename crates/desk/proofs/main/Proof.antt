@@ -9,7 +9,8 @@ use native.Mathlib.Nat.{min-le-right}
 use lib.ListN.{length, length-take, length-replicate}
 use lib.Seq.{length-take-le}
 use Rattle.input_lines.specs.Lines.{heldMax}
-use Rattle.frames.specs.Sizes.{resultMax, tableMax}
+use Rattle.frames.specs.Sizes.{resultMax}
+use Rattle.desk_memory.specs.Sizes.{tablesMax}
 use Rattle.desk_lines.specs.Sizes.{frameMax, answerMax}
 use Rattle.desk_lines.specs.Machine.{begun, Ready, Lent}
 use Rattle.desk.proofs.Handing.{ready-begun}
@@ -17,16 +18,16 @@ use Rattle.desk.proofs.main.Statement.{statement}
 use Rattle.desk.proofs.main.Tie as tie
 
 abbrev Inv-loop : tie.InvT-loop
-Inv-loop chunk₀ line₀ raw₀ made₀ table₀ out₀ state₀ turns₀ chunk line raw made table out state turns =
+Inv-loop chunk₀ line₀ raw₀ made₀ table₀ out₀ state₀ turns₀ chunk line raw made tables out state turns =
     (length chunk ≡ 65536)
     × (length out ≡ 65536)
     × (Lent raw made out answerMax)
-    × (Ready state table line)
+    × (Ready state tables line)
     × (state .number + turns * 65536 ≤ 9223372036854775808)
     × (state .wrote ≡ 0)
 
 abbrev μ-loop : tie.MeasureT-loop
-μ-loop chunk₀ line₀ raw₀ made₀ table₀ out₀ state₀ turns₀ chunk line raw made table out state turns = turns
+μ-loop chunk₀ line₀ raw₀ made₀ table₀ out₀ state₀ turns₀ chunk line raw made tables out state turns = turns
 
 -- A turn of the loop, from the piece that was handed over in it: how many bytes it has, how they were read, and the loop's test.
 abbrev count : tie.After-hand-over Inv-loop μ-loop → tie.After-count Inv-loop μ-loop
@@ -48,7 +49,7 @@ loop-holds c = (
     result = length-replicate {A = ℕ} resultMax 0;
     within = omega (arith, length-replicate {A = ℕ} 65536 0);
   },
-  ready-begun (c .begin .ensures) (length-replicate {A = ℕ} tableMax 0) (length-replicate {A = ℕ} heldMax 0),
+  ready-begun (c .begin .ensures) (length-replicate {A = ℕ} tablesMax 0) (length-replicate {A = ℕ} heldMax 0),
   rw (c .begin .ensures) (omega arith),
   rw (c .begin .ensures) refl,
 )

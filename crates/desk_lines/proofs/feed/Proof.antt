@@ -13,11 +13,11 @@ use Rattle.desk_lines.proofs.feed.Statement.{statement}
 use Rattle.desk_lines.proofs.feed.Tie as tie
 
 abbrev Inv-loop : tie.InvT-loop
-Inv-loop piece line₀ raw₀ made₀ table₀ out₀ at₀ now₀ line raw made table out at now =
-    Feeding now₀ table₀ line₀ out₀ piece at now table line out × Lent raw made out (now .wrote) × (length out ≡ length out₀)
+Inv-loop piece line₀ raw₀ made₀ table₀ out₀ at₀ now₀ line raw made tables out at now =
+    Feeding now₀ table₀ line₀ out₀ piece at now tables line out × Lent raw made out (now .wrote) × (length out ≡ length out₀)
 
 abbrev μ-loop : tie.MeasureT-loop
-μ-loop piece line₀ raw₀ made₀ table₀ out₀ at₀ now₀ line raw made table out at now = length piece - at
+μ-loop piece line₀ raw₀ made₀ table₀ out₀ at₀ now₀ line raw made tables out at now = length piece - at
 
 abbrev start : tie.At-loop Inv-loop μ-loop → tie.Start Inv-loop μ-loop
 start l = l .before .before .before .before .before .before .before

@@ -22,14 +22,14 @@ returns c =
     let i = w .before .before .before .before .before .before in
     let t = i .before .before .before in
     let b = start t in
-    fed-answered (b .args .state) (now (b .args .table)) (b .pre .0) (t .cut-line .ensures) (b .pre .2 .within) (i .if1 .taken) (w .answer-line .ensures)
+    fed-answered (b .args .state) (now (b .args .tables)) (b .pre .0) (t .cut-line .ensures) (b .pre .2 .within) (i .if1 .taken) (w .answer-line .ensures)
 
 returns-2 : tie.Need-returns-2
 returns-2 c =
     let i = c .before in
     let t = i .before .before .before in
     let b = start t in
-    fed-held (b .args .state) (now (b .args .table)) (b .pre .0) (t .cut-line .ensures) (now (b .args .out)) (omega (arith, b .pre .2 .within)) (i .if1 .left)
+    fed-held (b .args .state) (now (b .args .tables)) (b .pre .0) (t .cut-line .ensures) (now (b .args .out)) (omega (arith, b .pre .2 .within)) (i .if1 .left)
 
 pub feed-line-spec : {M : Type 1} → statement M
 feed-line-spec =

@@ -13,7 +13,7 @@ returns : tie.Need-returns
 returns c =
     let b = c .before .before .before .before .before .before in
     let a = b .args in
-    (stored-none (now (a .out)) (a .state .wrote) (ended-none (a .state) (now (a .table)) (now (a .line)) (c .if1 .taken)), omega arith)
+    (stored-none (now (a .out)) (a .state .wrote) (ended-none (a .state) (now (a .tables)) (now (a .line)) (c .if1 .taken)), omega arith)
 
 slice-aggregate-answer-line : tie.Need-slice-aggregate-answer-line
 slice-aggregate-answer-line c =
@@ -27,7 +27,7 @@ returns-2 c =
     let e = w .before .before .before .before .before .before in
     let b = e .before .before .before .before .before .before in
     let a = b .args in
-    (rw (ended-said (a .state) (now (a .table)) (now (a .line)) (b .pre .0) (e .if1 .left)) (w .answer-line .ensures .said), w .answer-line .ensures .room)
+    (rw (ended-said (a .state) (now (a .tables)) (now (a .line)) (b .pre .0) (e .if1 .left)) (w .answer-line .ensures .said), w .answer-line .ensures .room)
 
 pub finish-spec : {M : Type 1} → statement M
 finish-spec =

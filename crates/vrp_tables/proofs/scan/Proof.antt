@@ -1,4 +1,4 @@
--- `scan` meets its contract, by the laws of a scan at 32. The loop's invariant is that of a scan that has come to `at`.
+-- `scan` meets its contract, by the laws of a scan at the width handed in. The loop's invariant is that of a scan that has come to `at`.
 use mathlib.Core.Logic.{⊎-elim}
 use Prim.Native.Nat.{_-_}
 use mathlib.Core.Path.{refl, _∙_}
@@ -8,48 +8,27 @@ use denote.Ref.{now}
 use borrow.Author.Needs.{needs}
 use borrow.Author.Tests.{eq-eqb, ne-eqb}
 use lib.ListN.{length}
-use Rattle.rules.specs.Origin.{ipv4, vrpSize}
+use Rattle.rules.specs.Origin.{prefixIn, vrpSize, toldOrigin}
 use Rattle.octets.proofs.Slices.{part-length}
-use Rattle.rules.specs.Origin.{toldOrigin}
 use Rattle.vrp_tables.proofs.Scans.{Scanning, scan-start, scan-end, scan-good, scan-matches, scan-past}
 use Rattle.vrp_tables.proofs.scan.Statement.{statement}
 use Rattle.vrp_tables.proofs.scan.Tie as tie
 
 abbrev Inv-loop : tie.InvT-loop
-Inv-loop table prefix len origin covered₀ at₀ covered at = Scanning ipv4 table prefix len (toldOrigin origin) covered at
+Inv-loop width table prefix len origin size covered₀ at₀ covered at = Scanning width table (prefixIn width prefix) len (toldOrigin origin) covered at
 
 abbrev μ-loop : tie.MeasureT-loop
-μ-loop table prefix len origin covered₀ at₀ covered at = length table - at
+μ-loop width table prefix len origin size covered₀ at₀ covered at = length table - at
 
 loop-holds : tie.Need-loop-holds Inv-loop μ-loop
-loop-holds c = scan-start (c .before .pre)
-
-sub-if1 : tie.Need-sub-if1 Inv-loop μ-loop
-sub-if1 c = search needs
-
-add-weigh : tie.Need-add-weigh Inv-loop μ-loop
-add-weigh c = search needs
-
-sub-weigh : tie.Need-sub-weigh Inv-loop μ-loop
-sub-weigh c = search needs
-
-part-weigh-start : tie.Need-part-weigh-start Inv-loop μ-loop
-part-weigh-start c = search needs
-
-part-weigh-end : tie.Need-part-weigh-end Inv-loop μ-loop
-part-weigh-end c = search needs
+loop-holds c = scan-start (c .before .pre .1)
 
 weigh-requires : tie.Need-weigh-requires Inv-loop μ-loop
 unfolding vrpSize
 weigh-requires c κs =
     let l = c .before .before in
-    (part-length (now (l .before .before .args .table)) (l .loop .at) 10 (omega arith), scan-good (l .loop .inv) (omega arith))
-
-add-at : tie.Need-add-at Inv-loop μ-loop
-add-at c = search needs
-
-loop-less : tie.Need-loop-less Inv-loop μ-loop
-loop-less c = search needs
+    let o = l .before .before in
+    (o .pre .0, part-length (now (o .args .table)) (l .loop .at) (vrpSize (o .args .width)) (omega arith), scan-good (l .loop .inv) (omega arith))
 
 loop-again : tie.Need-loop-again Inv-loop μ-loop
 unfolding vrpSize
@@ -73,5 +52,5 @@ returns-3 c = scan-matches (c .before .before .before .before .loop .inv) (omega
 pub scan-spec : {M : Type 1} → statement M
 scan-spec =
     tie.close
-    (tie.spec Inv-loop μ-loop loop-holds sub-if1 add-weigh sub-weigh part-weigh-start part-weigh-end weigh-requires add-at loop-less
-    loop-again returns returns-2 returns-3)
+    (tie.spec Inv-loop μ-loop (λ c. search needs) loop-holds (λ c. search needs) (λ c. search needs) (λ c. search needs) (λ c. search needs)
+    (λ c. search needs) weigh-requires (λ c. search needs) (λ c. search needs) loop-again returns returns-2 returns-3)

@@ -8,7 +8,7 @@ use borrow.Author.Tests.{not-true, not-false}
 use denote.Ref.{now}
 use lib.ListN.{length, take}
 use lib.Seq.{length-take-le}
-use Rattle.frames.specs.Keeping.{replied}
+use Rattle.frames.specs.Replying.{replied}
 use Rattle.desk_lines.proofs.Saying.{answered-unreadable, answered-frame, reply-agrees}
 use borrow.Author.Needs.{needs}
 use Rattle.desk_lines.proofs.lines.answer_line.Statement.{statement}
@@ -51,7 +51,7 @@ returns c =
     let r = t .before .before .before in
     let b = start r in
     let a = b .args in
-    answered-unreadable (a .state) (now (a .table)) (now (a .line)) (sym (not-true _ (t .if1 .taken)) ∙ r .read-line .ensures .is) (b .pre .1) (p .put-line .ensures .0) (p .put-line .ensures .1)
+    answered-unreadable (a .state) (now (a .tables)) (now (a .line)) (sym (not-true _ (t .if1 .taken)) ∙ r .read-line .ensures .is) (b .pre .1) (p .put-line .ensures .0) (p .put-line .ensures .1)
 
 slice-reshare-prefix-frame : tie.Need-slice-reshare-prefix-frame
 slice-reshare-prefix-frame c = frame-within c
@@ -85,7 +85,7 @@ returns-2 c =
     let e = f .before .before .before .before in
     let r = e .before .before .before in
     let a = start r .args in
-    answered-frame (a .state) (now (a .table)) (now (a .line)) (sym (readable e) ∙ r .read-line .ensures .is) (r .read-line .ensures .spells (readable e)) (f .answer-frame .ensures) (k .keep-frame .ensures .is) (k .keep-frame .ensures .keeps) (p .put-line2 .ensures .0) (p .put-line2 .ensures .1)
+    answered-frame (a .state) (now (a .tables)) (now (a .line)) (sym (readable e) ∙ r .read-line .ensures .is) (r .read-line .ensures .spells (readable e)) (f .answer-frame .ensures) (k .keep-frame .ensures .is) (k .keep-frame .ensures .keeps) (p .put-line2 .ensures .0) (p .put-line2 .ensures .1)
 
 pub answer-line-spec : {M : Type 1} → statement M
 answer-line-spec =

@@ -1,6 +1,6 @@
 -- `is_done` meets its contract.
 use mathlib.Core.Path.{refl}
-use Rattle.frames.specs.Keeping.{isDone}
+use Rattle.frames.specs.Replying.{isDone}
 use borrow.Author.Needs.{needs}
 use Rattle.desk_lines.proofs.lines.is_done.Statement.{statement}
 use Rattle.desk_lines.proofs.lines.is_done.Tie as tie

@@ -3,7 +3,7 @@ use Prim.Native.Nat.{_+_, _≤_}
 use native.Mathlib.Omega.{arith}
 use denote.Ref.{now}
 use lib.ListN.{length}
-use Rattle.frames.specs.Keeping.{replied}
+use Rattle.frames.specs.Replying.{replied}
 use Rattle.text.proofs.Decimals.{decimal-length}
 use Rattle.desk_lines.proofs.Saying.{line-parts}
 use Rattle.octets.proofs.Writing.{stored-then}

@@ -9,7 +9,7 @@ use Rattle.rules.specs.Text.{decimal, decimalUpTo}
 use Rattle.rules.specs.Desk.{shownResult}
 use Rattle.frames.specs.declared.reply.Reply.{Reply}
 use Rattle.frames.specs.declared.reply.Reply.the-variants.{Bytes}
-use Rattle.frames.specs.Keeping.{replied, Within}
+use Rattle.frames.specs.Replying.{replied, Within}
 use Rattle.text.proofs.Decimals.{decimal-length}
 use Rattle.octets.proofs.Writing.{stored-then}
 use borrow.Author.Needs.{needs}

@@ -1,0 +1,108 @@
+// Prefixes as words, and their leading bits, 32 at a time (RFC 6811 section 2; 01, "Origin state"; 02, Q-1).
+use octets::number4_at;
+use rules::Words;
+ghost use mathlib.Core.Path.{_≡_};
+ghost use mathlib.Core.Bool.{cond};
+ghost use Prim.Native.Nat.{_+_, _*_, _≤_, _<_, _^_};
+ghost use lib.Dec.{leb};
+ghost use lib.ListN.{length};
+ghost use Rattle.rules.specs.Bytes.{bigEndian, part};
+ghost use Rattle.rules.specs.Origin.{ipv4, ipv6, prefixIn, agree};
+ghost use Rattle.vrps.specs.Widths.{Whole, wordIn};
+
+// The width of a prefix in bits, for IPv4 and IPv6.
+pub const IPV4: usize = 32;
+
+pub const IPV6: usize = 128;
+
+// The bits of a word, and how many values it has.
+const WORD: u8 = 32;
+
+const WORD_VALUES: u64 = 4294967296;
+
+// An IPv4 prefix, as words.
+pub fn words4(prefix: u32) -> Words
+    ensures { λ r. ⌜ prefixIn ipv4 r ≡ prefix ⌝ }
+{
+    Words {
+        first: prefix,
+        second: 0,
+        third: 0,
+        fourth: 0,
+    }
+}
+
+// An IPv6 prefix, by the numbers of its first eight bytes and of its last eight, as words.
+pub fn words6(high: u64, low: u64) -> Words
+    ensures { λ r. ⌜ prefixIn ipv6 r ≡ high * 2 ^ 64 + low ⌝ }
+{
+    Words {
+        first: (high / WORD_VALUES) as u32,
+        second: (high % WORD_VALUES) as u32,
+        third: (low / WORD_VALUES) as u32,
+        fourth: (low % WORD_VALUES) as u32,
+    }
+}
+
+// Whether two words agree in their n leading bits: nothing is left of where they differ without the bits after them. Internal.
+pub fn same_leading(a: u32, b: u32, n: u8) -> bool
+    requires { ⌜ n ≤ 32 ⌝ }
+    ensures { λ r. ⌜ r ≡ agree 32 n a b ⌝ }
+{
+    let after = WORD - n;
+    ((a ^ b) as u64) >> after == 0
+}
+
+// Word k of a prefix, counted from the leading one. Internal.
+fn word(prefix: Words, k: usize) -> u32
+    ensures { λ r. ⌜ r ≡ wordIn prefix k ⌝ }
+{
+    match k {
+        0 => prefix.first,
+        1 => prefix.second,
+        2 => prefix.third,
+        _ => prefix.fourth,
+    }
+}
+
+// Whether a prefix in bytes and one in words agree in their n leading bits: word by word, and in the bits that are left of the last one.
+// Internal.
+pub fn same_prefix(bytes: &[u8], prefix: Words, n: u8) -> bool
+    requires { ⌜ (Whole (8 * length (now bytes))) × (n ≤ 8 * length (now bytes)) ⌝ }
+    ensures { λ r. ⌜ r ≡ agree (8 * length (now (bytes .entry))) n (bigEndian (now (bytes .entry))) (prefixIn (8 * length (now (bytes .entry))) prefix) ⌝ }
+{
+    let mut k = 0;
+    let mut left = n;
+    while WORD < left {
+        if number4_at(bytes, 4 * k) != word(prefix, k) {
+            return false;
+        }
+        k += 1;
+        left -= WORD;
+    }
+    same_leading(number4_at(bytes, 4 * k), word(prefix, k), left)
+}
+
+// Word k of a prefix in bytes, or 0 past its end. Internal.
+fn word_or_zero(bytes: &[u8], k: usize) -> u32
+    requires { ⌜ k < 4 ⌝ }
+    ensures { λ r. ⌜ r ≡ cond (leb (4 * k + 4) (length (now (bytes .entry)))) (bigEndian (part (4 * k) 4 (now (bytes .entry)))) 0 ⌝ }
+{
+    if bytes.len() < 4 * k + 4 {
+        return 0;
+    }
+    number4_at(bytes, 4 * k)
+}
+
+// A prefix in bytes, as words. Internal.
+pub fn words(bytes: &[u8]) -> Words
+    requires { ⌜ Whole (8 * length (now bytes)) ⌝ }
+    ensures { λ r. ⌜ prefixIn (8 * length (now (bytes .entry))) r ≡ bigEndian (now (bytes .entry)) ⌝ }
+{
+    Words {
+        first: word_or_zero(bytes, 0),
+        second: word_or_zero(bytes, 1),
+        third: word_or_zero(bytes, 2),
+        fourth: word_or_zero(bytes, 3),
+    }
+}
