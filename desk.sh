@@ -14,11 +14,16 @@ the line number, the answer and, on answer 0, the result in hex; else "-".
 Frames (bytes in brackets)
   01  session   local AS [4], remote AS [4], local role [1], strict [1], mode [1],
                 OPEN parameters [0 to 255]            result: the remote role
-  02  receipt   prefix length [1], prefix [4], block [0 to 4,073]
+  02  receipt of an IPv4 route
+                prefix length [1], prefix [4], block [0 to 4,073]
                                                       result: state and block
   03  sending   source [1], state [1], block [0 to 4,073]
                                                       result: block
-  04  VRP       prefix [4], length [1], maximum length [1], AS [4]
+  04  IPv4 VRP  prefix [4], length [1], maximum length [1], AS [4]
+  12  receipt of an IPv6 route
+                prefix length [1], prefix [16], block [0 to 4,073]
+                                                      result: state and block
+  14  IPv6 VRP  prefix [16], length [1], maximum length [1], AS [4]
 
   role    0 Provider, 1 RS, 2 RS-Client, 3 Customer, 4 Peer
   strict  0 or 1: whether the neighbour must send its role
@@ -27,7 +32,7 @@ Frames (bytes in brackets)
   state   0 valid, 1 not found, 2 invalid, 3 unavailable
 
 Answers
-  0  done                            6  too long, or 4,096 VRPs held
+  0  done                            6  too long, or 4,096 VRPs of the family held
   1  ineligible, a leak              7  no room: the result is over 4,073 bytes
   2  withheld                        8  OPEN parameters malformed
   3  attributes malformed            9  bad VRP record

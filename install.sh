@@ -28,6 +28,8 @@ esac
 case $prefix in
 *[[:space:]\$\#\"\'\\]*) stop "white space, quotes, \$, # or \\ in a path that a pkg-config file has to name: $prefix" ;;
 esac
+version=$(awk '$2 == "BGP_POLICY_VERSION" { gsub("\"", "", $3); print $3 }' "$top/include/bgp_policy.h")
+[ -n "$version" ] || stop "the header names no version"
 mkdir -p "$prefix/include" "$prefix/lib/pkgconfig" || stop "no folder can be made under $prefix"
 install -m 644 "$top/include/bgp_policy.h" "$prefix/include/bgp_policy.h" || stop "the header could not be installed"
 install -m 644 "$library" "$prefix/lib/libbgp_policy.a" || stop "the library could not be installed"
@@ -38,7 +40,7 @@ libdir=\${prefix}/lib
 
 Name: bgp_policy
 Description: Proved routing policy for BGP: roles and route leaks, origin states, the choice of a route
-Version: 0.1.0
+Version: $version
 Cflags: -I\${includedir}
 Libs: -L\${libdir} -lbgp_policy
 PC

@@ -1,14 +1,17 @@
 /*
  * Routing policy for BGP, for C: opening of sessions under RFC 9234 roles, receipt and sending of their attribute blocks, the
- * origin state of IPv4 routes (RFC 6811), the state that a received tag tells (RFC 8097), and the choice of a route for a
- * route-server client. The functions are in libbgp_policy.a, which install.sh puts beside this file under a folder; as built it is
- * target/staticlib/libc_api.a.
+ * origin state of IPv4 and IPv6 unicast routes (RFC 6811), the state that a received tag tells (RFC 8097), and the choice of a
+ * route for a route-server client. The functions are in libbgp_policy.a, which install.sh puts beside this file under a folder; as
+ * built it is target/staticlib/libc_api.a.
  */
 #ifndef BGP_POLICY_H
 #define BGP_POLICY_H
 
 #include <stddef.h>
 #include <stdint.h>
+
+/* The version of this interface; the pkg-config file has it too. */
+#define BGP_POLICY_VERSION "0.2.0"
 
 #ifdef __cplusplus
 extern "C" {
@@ -39,11 +42,19 @@ extern "C" {
  * Of receipt, sending, origin state and received tag
  * block, block_len      the attribute block: where it begins, and how many bytes it has, at most 4,073
  *
- * Of origin state
+ * Of origin state, both functions
+ * own_as                the AS that is the origin of a route with an empty path: not 0
+ *
+ * Of origin state of IPv4 routes
  * prefix_length         0 to 32
  * prefix                the route's prefix as a number, its first byte the highest; bits after the length do not count
- * own_as                the AS that is the origin of a route with an empty path: not 0
  * table, table_len      VRPs of 10 bytes each: prefix 4, length, maximum length, ASN 4, high byte first; at most 4,096 of them
+ *
+ * Of origin state of IPv6 routes
+ * prefix_length         0 to 128
+ * prefix_high,          the route's prefix as two numbers, of its first eight bytes and of its last eight, in each the first
+ * prefix_low            byte the highest; bits after the length do not count
+ * table, table_len      VRPs of 22 bytes each: prefix 16, length, maximum length, ASN 4, high byte first; at most 4,096 of them
  *
  * Of choosing
  * client                the client's own address as a number
@@ -77,12 +88,14 @@ extern "C" {
  *  6  too long: parameters of more than 255 bytes, a block
  *     of more than 4,073 (in choosing 10), a table of more
  *     than 4,096 VRPs or 64 candidates; or a table whose
- *     length is no multiple of 10, or of 17                 0
+ *     length is no multiple of 10 (IPv4 VRPs), of 22 (IPv6
+ *     VRPs) or of 17 (candidates)                           0
  *  7  no room: the result is longer than out or than 4,073
  *     (receipt and sending)                                 0
  *  8  OPEN parameters malformed (opening only)              0
  *  9  bad VRP record: its length above its maximum, or its
- *     maximum above 32 (origin state only)                  the index of the first one, from 0
+ *     maximum above 32, of IPv6 VRPs above 128 (origin
+ *     state only)                                           the index of the first one, from 0
  * 10  bad candidate: outside the buffer, more than 4,073
  *     bytes, state above 3, or malformed (choosing and
  *     comparing two)                                        the index of the first one, from 0
@@ -117,11 +130,28 @@ uint8_t bgp_send(uint32_t local_as, uint32_t remote_as, uint8_t local_role, uint
                  uint8_t *out, size_t out_len,
                  size_t *beside);
 
-/* Origin state: whether the VRPs of a table say that the AS at the end of the block's AS_PATH may originate the route. */
+/*
+ * Origin state of an IPv4 route: whether the VRPs of a table say that the AS at the end of the block's AS_PATH may originate the
+ * route.
+ */
 uint8_t bgp_origin_state(uint8_t prefix_length, uint32_t prefix, uint32_t own_as,
                          const uint8_t *table, size_t table_len,
                          const uint8_t *block, size_t block_len,
                          size_t *beside);
+
+/*
+ * Origin state of an IPv6 route, by a table of IPv6 VRPs. From a struct in6_addr prefix, on a machine of either byte order:
+ *
+ *     uint64_t prefix_high = 0, prefix_low = 0;
+ *     for (int i = 0; i < 8; i++) {
+ *         prefix_high = prefix_high << 8 | prefix.s6_addr[i];
+ *         prefix_low = prefix_low << 8 | prefix.s6_addr[8 + i];
+ *     }
+ */
+uint8_t bgp_origin_state6(uint8_t prefix_length, uint64_t prefix_high, uint64_t prefix_low, uint32_t own_as,
+                          const uint8_t *table, size_t table_len,
+                          const uint8_t *block, size_t block_len,
+                          size_t *beside);
 
 /* Received tag: the greatest state, up to 2, that the tags among the block's extended communities tell. */
 uint8_t bgp_received_tag(const uint8_t *block, size_t block_len, size_t *beside);

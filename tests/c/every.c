@@ -1,15 +1,10 @@
 /*
- * Every function of bgp_policy.h on cases of document 01: the answer, the number beside it and every byte of the buffer, and
+ * Every function of bgp_policy.h on cases of the documents: the answer, the number beside it and every byte of the buffer, and
  * that the bytes handed in stay. Prints a line for each check, last 'N passed, M failed'; the status is 0 where none failed.
  */
+#include "checks.h"
 #include <bgp_policy.h>
-#include <stdio.h>
-#include <string.h>
-
-#define BLOCK_MAX 4073
-#define TABLE_MAX 40970 /* one VRP too many */
-#define MARK 0xA5       /* in every byte that no call has written */
-#define UNSET ((size_t)-1)
+#include <netinet/in.h>
 
 /* Attribute blocks, in hex */
 #define OWN "40010100400200"                   /* ORIGIN and an empty AS_PATH */
@@ -21,70 +16,6 @@
 #define OTHER "0002000000000000"               /* a community that is no tag */
 #define FULL OWN "D0630FDE"                    /* with zeros after it: 4,073 bytes */
 #define OVER OWN "D0630FDF"                    /* 4,074 */
-
-static uint8_t in[2][TABLE_MAX], kept[2][TABLE_MAX]; /* what is handed in, and a copy */
-static uint8_t out[BLOCK_MAX + 16], after[BLOCK_MAX + 16];
-static size_t beside, left;
-static unsigned passed, failed;
-
-/* The bytes that hex digits spell go to `to`; gives how many there are. */
-static size_t spell(const char *digits, uint8_t *to)
-{
-    static const char all[] = "0123456789ABCDEF";
-    size_t i, length = strlen(digits) / 2;
-    for (i = 0; i < length; i++)
-        to[i] = (uint8_t)((strchr(all, digits[2 * i]) - all) * 16 + (strchr(all, digits[2 * i + 1]) - all));
-    return length;
-}
-
-/* The digits of `head`, `unit` as often as said, and `tail`; the two last texts stand. */
-static const char *text(const char *head, const char *unit, size_t times, const char *tail)
-{
-    static char texts[2][2 * TABLE_MAX + 1];
-    static int turn;
-    char *end = texts[turn = !turn];
-    end += strlen(strcpy(end, head));
-    while (times-- > 0)
-        end += strlen(strcpy(end, unit));
-    strcpy(end, tail);
-    return texts[turn];
-}
-
-/* The digits of `head`, and zeros up to so many bytes. */
-static const char *filled(const char *head, size_t length)
-{
-    return text(head, "00", length - strlen(head) / 2, "");
-}
-
-/* Hands in one of the two inputs, and makes the rest ready for a call. */
-static size_t hand(int which, const char *digits)
-{
-    size_t length;
-    memset(in[which], MARK, TABLE_MAX);
-    length = spell(digits, in[which]);
-    memcpy(kept[which], in[which], TABLE_MAX);
-    memset(out, MARK, sizeof out);
-    beside = left = UNSET;
-    return length;
-}
-
-/* One check, of what the call just made has given and stored. */
-static void check(const char *function, const char *name, unsigned answer,
-                  unsigned want, size_t want_beside, size_t want_left, const char *stored)
-{
-    int ok;
-    memset(after, MARK, sizeof after);
-    spell(stored, after);
-    ok = answer == want && beside == want_beside && left == want_left &&
-         memcmp(out, after, sizeof out) == 0 && memcmp(in, kept, sizeof in) == 0;
-    printf("%s: %s: %s: %u beside %lu\n", ok ? "ok" : "FAILED", function, name, answer, (unsigned long)beside);
-    if (ok) {
-        passed++;
-    } else {
-        printf("  wanted %u beside %lu, and %u bytes stored\n", want, (unsigned long)want_beside, (unsigned)strlen(stored) / 2);
-        failed++;
-    }
-}
 
 static void opening(const char *name, uint8_t role, uint8_t strict, const char *parameters, unsigned want, size_t want_beside)
 {
@@ -118,6 +49,23 @@ static void origin(const char *name, uint8_t length, uint32_t prefix, const char
           want, want_beside, UNSET, "");
 }
 
+/* The prefix, 16 bytes in hex, is handed on from a struct in6_addr as the header shows. */
+static void origin6(const char *name, uint8_t length, const char *digits, const char *table, const char *block,
+                    unsigned want, size_t want_beside)
+{
+    size_t t = hand(0, table), n = hand(1, block);
+    struct in6_addr prefix;
+    uint64_t prefix_high = 0, prefix_low = 0;
+    spell(digits, prefix.s6_addr);
+    for (int i = 0; i < 8; i++) {
+        prefix_high = prefix_high << 8 | prefix.s6_addr[i];
+        prefix_low = prefix_low << 8 | prefix.s6_addr[8 + i];
+    }
+    check("bgp_origin_state6", name,
+          bgp_origin_state6(length, prefix_high, prefix_low, 64500, in[0], t, in[1], n, &beside),
+          want, want_beside, UNSET, "");
+}
+
 static void tag(const char *name, const char *block, unsigned want, size_t want_beside)
 {
     size_t n = hand(0, block);
@@ -143,6 +91,8 @@ int main(void)
 {
     /* Roles: 0 Provider, 1 RS, 2 RS-Client, 3 Customer, 4 Peer; the role given is this end's */
     static const char vrp[] = "0A00000010140000FBF4"; /* 10.0.0.0/16, maximum 20, AS 64500 */
+    static const char vrp6[] = "20010DB8000000000000000000000000" "20300000FBF4"; /* 2001:db8::/32, maximum 48, AS 64500 */
+    static const char mapped[] = "00000000000000000000FFFF0A001000";              /* ::ffff:10.0.16.0 */
     static const char path[] = "000000000000000D000000000A0A000001", own[] = "0000000D0000000702000000140A000002";
     static const char with_otc[] = "000000140000000E00000000010A000003", outside[] = "0000001C0000000700000000010A000004";
     const char *block;
@@ -198,6 +148,24 @@ int main(void)
     origin("the second VRP bad", 20, 0x0A001000, text(vrp, "0A00000010210000FBF4", 2, ""), BY_64500, 9, 1);
     origin("prefix length 33", 33, 0x0A001000, vrp, BY_64500, 5, 0);
     origin("no AS_PATH", 20, 0x0A001000, vrp, "40010100", 3, 4);
+
+    origin6("2001:db8:1::/48", 48, "20010DB8000100000000000000000000", vrp6, BY_64500, 0, 0);
+    origin6("2001:db8:1::/49", 49, "20010DB8000100000000000000000000", vrp6, BY_64500, 0, 2);
+    origin6("2001:db9::/48", 48, "20010DB9000000000000000000000000", vrp6, BY_64500, 0, 1);
+    origin6("a final set", 48, "20010DB8000100000000000000000000", vrp6, FINAL_SET, 0, 2);
+    origin6("an empty path", 48, "20010DB8000100000000000000000000", vrp6, OWN, 0, 0);
+    origin6("128 bits agree", 128, mapped, text(mapped, "8080", 1, "0000FBF4"), BY_64500, 0, 0);
+    origin6("bit 128 differs", 128, mapped, "00000000000000000000FFFF0A001001" "80800000FBF4", BY_64500, 0, 1);
+    origin6("bit 64 differs", 64, "20010DB8000000000000000000000000", "20010DB8000000010000000000000000" "40400000FBF4",
+            BY_64500, 0, 1);
+    origin6("bit 65 differs, length 64", 128, mapped, "00000000000000008000FFFF0A001000" "40800000FBF4", BY_64500, 0, 0);
+    origin6("4,096 VRPs", 48, "20010DB8000100000000000000000000",
+            text("", "20010DB8000000000000000000000000" "203000000000", 4095, vrp6), BY_64500, 0, 0);
+    origin6("4,097 VRPs", 48, "20010DB8000100000000000000000000", text("", vrp6, 4097, ""), BY_64500, 6, 0);
+    origin6("a table of 23 bytes", 48, mapped, text(vrp6, "00", 1, ""), BY_64500, 6, 0);
+    origin6("the second VRP bad", 48, mapped, text(vrp6, "20010DB8000000000000000000000000" "20810000FBF4", 2, ""), BY_64500, 9, 1);
+    origin6("prefix length 129", 129, mapped, vrp6, BY_64500, 5, 0);
+    origin6("no AS_PATH", 48, mapped, vrp6, "40010100", 3, 4);
 
     tag("P10, tags 0 and 7", OWN "C01010" TAG "00" TAG "07", 0, 0);
     tag("tags 2 and 1", OWN "C01010" TAG "02" TAG "01", 0, 2);

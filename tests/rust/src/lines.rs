@@ -1,21 +1,47 @@
-//! The lines of ../vectors, whose README says what they hold.
-use crate::hex;
+//! The lines of ../vectors/Q-01; ../vectors/README.md says what they hold.
 use crate::sides::{Side, SIDES};
-use std::path::Path;
+use crate::{expected_buffer, hex, patterns, shown};
+use bgp_policy::BLOCK_MAX;
+use std::path::{Path, PathBuf};
 
 /// The result of a line: nothing, or how it differs.
 pub type Compared = Result<(), String>;
 
+/// The folder of the vectors.
+pub fn folder() -> PathBuf {
+    Path::new(env!("CARGO_MANIFEST_DIR")).join("../vectors/Q-01")
+}
+
+// The text of a file of the folder.
+fn text(file: &str) -> String {
+    let path = folder().join(file);
+    std::fs::read_to_string(&path).unwrap_or_else(|e| panic!("{}: {e}", path.display()))
+}
+
+/// Every line of every table in the folder is of one of these kinds, each named with its file.
+pub fn all_run(kinds: &[(&str, &str)]) {
+    let entries = std::fs::read_dir(folder()).expect("the folder of the vectors");
+    let names = entries.map(|entry| entry.expect("a name").file_name());
+    let names = names.map(|name| name.into_string().expect("a name in letters"));
+    for file in names.filter(|name| name.ends_with(".tsv")) {
+        for (number, line) in text(&file).lines().enumerate() {
+            let kind = line.split('\t').next().unwrap_or_default();
+            let run = kinds.contains(&(&file, kind));
+            assert!(
+                run,
+                "{file}:{}: '{kind}' is no kind that is run",
+                number + 1
+            );
+        }
+    }
+}
+
 /// The lines of one kind in one file, each handed to `compare` as its fields after the kind, with each implementation. All
 /// differing lines are told.
 pub fn every(file: &str, kind: &str, compare: fn(&Side, &[&str]) -> Compared) {
-    let path = Path::new(env!("CARGO_MANIFEST_DIR"))
-        .join("../vectors")
-        .join(file);
-    let text = std::fs::read_to_string(&path).unwrap_or_else(|e| panic!("{}: {e}", path.display()));
     let mut ran = 0;
     let mut differing = Vec::new();
-    for (number, line) in text.lines().enumerate() {
+    for (number, line) in text(file).lines().enumerate() {
         let fields: Vec<&str> = line.split('\t').collect();
         if fields[0] != kind {
             continue;
@@ -60,4 +86,52 @@ pub fn bytes(field: &str) -> Vec<u8> {
     } else {
         hex(field)
     }
+}
+
+/// One call in each of two buffers of `cap` bytes, against the three fields after `=>`: answer, number beside it, block stored.
+pub fn call(cap: &str, expected: &[&str], run: impl Fn(&mut [u8]) -> (u8, usize)) -> Compared {
+    let &[answer, beside, stored] = expected else {
+        panic!("{} fields after =>", expected.len());
+    };
+    let answer: u8 = number(answer);
+    let stored = (answer == 0).then(|| bytes(stored));
+    // On answer 0 the written length stands beside it, on a refusal the vector's number or, where it has none, 0.
+    let beside = match &stored {
+        Some(block) => block.len(),
+        None => optional(beside).unwrap_or(0),
+    };
+    for before in patterns(optional(cap).unwrap_or(BLOCK_MAX)) {
+        let mut out = before.clone();
+        let got = run(&mut out);
+        if got != (answer, beside) {
+            return Err(format!("answered {got:?}, expected {:?}", (answer, beside)));
+        }
+        let after = expected_buffer(&before, stored.as_deref());
+        if out != after {
+            let at = (0..out.len()).find(|&i| out[i] != after[i]).unwrap();
+            return Err(format!(
+                "the buffer differs from byte {at} on: {}, expected {}",
+                shown(&out[at..]),
+                shown(&after[at..])
+            ));
+        }
+    }
+    Ok(())
+}
+
+/// A call that tells one number, against the three fields after `=>`: answer, number beside it, result.
+pub fn told(expected: &[&str], got: (u8, usize)) -> Compared {
+    let &[answer, beside, result] = expected else {
+        panic!("{} fields after =>", expected.len());
+    };
+    let answer: u8 = number(answer);
+    // On answer 0 the result stands beside it, on a refusal the vector's number or, where it has none, 0.
+    let beside = match answer {
+        0 => number(result),
+        _ => optional(beside).unwrap_or(0),
+    };
+    if got != (answer, beside) {
+        return Err(format!("answered {got:?}, expected {:?}", (answer, beside)));
+    }
+    Ok(())
 }

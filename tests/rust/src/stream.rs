@@ -1,7 +1,7 @@
 //! Seeded line streams for the desk: frames of every kind, refused ones and unreadable lines among them.
 use crate::counterpart;
 use crate::generate::{block, block_of_length, damaged, faulty_block, Random, ASNS};
-use crate::tables::{parameters, parameters_of_length, prefix, vrp};
+use crate::tables::{length6, parameters, parameters_of_length, prefix, prefix6, vrp, vrp6};
 
 fn session_frame(random: &mut Random) -> Vec<u8> {
     let local_role = random.below(5) as u8;
@@ -59,8 +59,22 @@ fn sending_frame(random: &mut Random) -> Vec<u8> {
     [&[3, source, state], &some_block(random)[..]].concat()
 }
 
-fn vrp_frame(random: &mut Random) -> Vec<u8> {
-    let mut frame = [&[4], &vrp(random, 10)[..]].concat();
+fn receipt6_frame(random: &mut Random) -> Vec<u8> {
+    let length = match random.below(30) {
+        0 => random.pick(&[129, 255]),
+        _ => length6(random) as u8,
+    };
+    let prefix = prefix6(random).to_be_bytes();
+    [&[0x12, length], &prefix[..], &some_block(random)].concat()
+}
+
+// A VRP of the frame's kind, 04 or 14.
+fn vrp_frame(random: &mut Random, kind: u8) -> Vec<u8> {
+    let record = match kind {
+        0x04 => vrp(random, 10),
+        _ => vrp6(random, 10),
+    };
+    let mut frame = [&[kind], &record[..]].concat();
     match random.below(20) {
         0 => drop(frame.pop()),
         1 => frame.push(0),
@@ -89,7 +103,7 @@ fn line(random: &mut Random, frame: &[u8], out: &mut Vec<u8>) {
             digits.insert(at, random.pick(b"gxG/:@` \0\xFF0f"));
         }
         3 => digits.clear(),
-        4 => digits.truncate(random.pick(&[1, 2, 4, 6, 10, 22, 24])),
+        4 => digits.truncate(random.pick(&[1, 2, 4, 6, 10, 22, 24, 34, 36, 44, 46])),
         5 if random.one_in(8) => {
             let length = random.pick(&[8_191, 8_192, 8_193, 8_194, 8_195, 20_000]);
             digits.resize(length, b'0');
@@ -104,12 +118,14 @@ fn line(random: &mut Random, frame: &[u8], out: &mut Vec<u8>) {
 pub fn stream(random: &mut Random, length: usize) -> Vec<u8> {
     let mut out = Vec::new();
     while out.len() < length {
-        let frame = match random.below(40) {
+        let frame = match random.below(50) {
             0..=4 => session_frame(random),
-            5..=7 => vrp_frame(random),
-            8 => vec![random.pick(&[0, 1, 2, 3, 4, 5, 16, 255])],
-            9 => random.bytes(8),
-            10..=24 => receipt_frame(random),
+            5..=7 => vrp_frame(random, 0x04),
+            8..=10 => vrp_frame(random, 0x14),
+            11 => vec![random.pick(&[0, 1, 2, 3, 4, 5, 0x10, 0x12, 0x13, 0x14, 255])],
+            12 => random.bytes(8),
+            13..=24 => receipt_frame(random),
+            25..=36 => receipt6_frame(random),
             _ => sending_frame(random),
         };
         line(random, &frame, &mut out);
@@ -123,11 +139,11 @@ pub fn stream(random: &mut Random, length: usize) -> Vec<u8> {
     out
 }
 
-/// `count` lines of one VRP each, some of them refused.
-pub fn vrps(random: &mut Random, count: usize) -> Vec<u8> {
+/// `count` lines of one VRP each, all of one kind, 04 or 14, some of them refused.
+pub fn vrps(random: &mut Random, kind: u8, count: usize) -> Vec<u8> {
     let mut out = Vec::new();
     for _ in 0..count {
-        let frame = vrp_frame(random);
+        let frame = vrp_frame(random, kind);
         line(random, &frame, &mut out);
     }
     out

@@ -1,30 +1,11 @@
-//! Opening, origin state, received tag, choosing and comparing two: the library, the reference and fast Rust agree over seeded
-//! inputs.
+//! Opening, received tag, choosing and comparing two: the library, the reference and fast Rust agree over seeded inputs.
 use bgp_policy::{table, Candidate, Offer};
-use policy_tests::generate::{block, block_of_length, damaged, faulty_block, Random, ASNS};
+use policy_tests::generate::{block, damaged, Random};
 use policy_tests::sides::agree;
-use policy_tests::tables::{parameters, parameters_of_length, prefix, vrp, Tally};
+use policy_tests::tables::{parameters, parameters_of_length, some_block, Tally, FAULTS};
 use policy_tests::{counterpart, shown};
 
 const ROUNDS: usize = 120_000;
-
-const FAULTS: [(u8, usize); 6] = [(3, 1), (3, 2), (3, 3), (3, 4), (3, 5), (3, 6)];
-
-// A block: mostly readable, else with a fault, damaged, or of a length about the limit.
-fn some_block(random: &mut Random) -> Vec<u8> {
-    match random.below(12) {
-        0 => faulty_block(random),
-        1 => {
-            let sound = block(random);
-            damaged(random, sound)
-        }
-        2 if random.one_in(4) => {
-            let length = random.pick(&[4_072, 4_073, 4_074, 5_000]);
-            block_of_length(random, length)
-        }
-        _ => block(random),
-    }
-}
 
 fn agree_on_open(random: &mut Random, parameters: &[u8], role: u8, tally: &mut Tally) {
     let local_role = match random.below(30) {
@@ -64,50 +45,6 @@ fn opening_agrees() {
     let done = [(0, 0), (0, 1), (0, 2), (0, 3), (0, 4)];
     let refused = [(4, 0), (5, 0), (6, 0), (8, 0)];
     tally.check("open", &[&done[..], &refused].concat());
-}
-
-fn agree_on_state(random: &mut Random, table: &[u8], block: &[u8], tally: &mut Tally) {
-    let length = match random.below(40) {
-        0 => random.pick(&[33, 34, 255]),
-        1..=4 => random.below(33) as u8,
-        _ => random.pick(&[16, 19, 20, 20, 21, 24]),
-    };
-    let own_as = random.pick(&[ASNS[0], ASNS[1], ASNS[3], 7, 8, 9, 10, 11, 12, 0]);
-    let prefix = prefix(random);
-    let (answer, beside) = agree(
-        |side| (side.origin_state)(length, prefix, own_as, table, block),
-        || {
-            let (table, block) = (shown(table), shown(block));
-            format!("{prefix:08X}/{length}, own AS {own_as}, table {table}, block {block}")
-        },
-    );
-    // Of a bad record only the answer is counted.
-    tally.add(answer, if answer == 9 { 0 } else { beside });
-}
-
-#[test]
-fn origin_state_agrees() {
-    let (mut random, mut tally) = (Random(12), Tally::default());
-    for _ in 0..ROUNDS {
-        let count = random.below(9);
-        let mut table: Vec<u8> = (0..count).flat_map(|_| vrp(&mut random, 60)).collect();
-        match random.below(30) {
-            0 => drop(table.pop()),
-            1 => table.push(0),
-            2 => table = damaged(&mut random, table),
-            _ => {}
-        }
-        let block = some_block(&mut random);
-        agree_on_state(&mut random, &table, &block, &mut tally);
-    }
-    for count in [4_095, 4_096, 4_097].iter().flat_map(|n| [*n; 30]) {
-        let bad_in = random.pick(&[10_000, 1_000_000]);
-        let table: Vec<u8> = (0..count).flat_map(|_| vrp(&mut random, bad_in)).collect();
-        let block = some_block(&mut random);
-        agree_on_state(&mut random, &table, &block, &mut tally);
-    }
-    let expected = [(0, 0), (0, 1), (0, 2), (5, 0), (6, 0), (9, 0)];
-    tally.check("origin_state", &[&expected[..], &FAULTS].concat());
 }
 
 #[test]

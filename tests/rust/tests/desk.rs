@@ -1,12 +1,12 @@
 //! The desk program prints for seeded line streams what the reference and fast Rust print, however the input comes in pieces.
 use policy_tests::generate::Random;
+use policy_tests::lines::folder;
 use policy_tests::stream::{stream, vrps};
 use policy_tests::{desk_program, fast, reference};
 use std::collections::BTreeMap;
 use std::io::Write;
 use std::os::fd::OwnedFd;
 use std::os::unix::net::UnixDatagram;
-use std::path::Path;
 use std::process::{Command, Stdio};
 
 const STREAM: usize = 400_000;
@@ -79,17 +79,14 @@ fn agree(name: &str, input: &[u8]) -> Vec<u8> {
     expected
 }
 
-fn count(output: &[u8], counts: &mut BTreeMap<u8, usize>) {
-    for line in output
-        .split(|&byte| byte == b'\n')
-        .filter(|l| !l.is_empty())
-    {
-        let text = std::str::from_utf8(line).expect("an answer line is text");
-        let answer = text
-            .split(' ')
-            .nth(1)
-            .expect("an answer line has an answer");
-        *counts.entry(answer.parse().expect("a number")).or_default() += 1;
+// How often lines that begin with the same two digits got each answer.
+fn count(input: &[u8], output: &[u8], counts: &mut BTreeMap<(String, u8), usize>) {
+    let answers = std::str::from_utf8(output).expect("the answers are text");
+    for (line, answer) in input.split(|&byte| byte == b'\n').zip(answers.lines()) {
+        let beginning = String::from_utf8_lossy(&line[..line.len().min(2)]).into_owned();
+        let answer = answer.split(' ').nth(1).expect("a line has an answer");
+        let answer = answer.parse().expect("a number");
+        *counts.entry((beginning, answer)).or_default() += 1;
     }
 }
 
@@ -98,30 +95,49 @@ fn streams_agree() {
     let mut counts = BTreeMap::new();
     for seed in 21..27 {
         let input = stream(&mut Random(seed), STREAM);
-        count(&agree(&format!("seed {seed}"), &input), &mut counts);
+        let output = agree(&format!("seed {seed}"), &input);
+        count(&input, &output, &mut counts);
     }
-    println!("desk: {counts:?}");
-    for answer in [0, 1, 2, 3, 4, 5, 6, 7, 8, 9, 12] {
-        assert!(counts.contains_key(&answer), "{answer} never occurred");
+    for (beginnings, answers) in [
+        (&["01"][..], &[0, 4, 5, 6, 8, 12][..]),
+        (&["02", "12"], &[0, 1, 3, 5, 6, 7, 12]),
+        (&["03"], &[0, 2, 3, 5, 6, 7, 12]),
+        (&["04", "14"], &[0, 6, 9, 12]),
+    ] {
+        for beginning in beginnings {
+            for answer in answers {
+                let count = counts.get(&(beginning.to_string(), *answer));
+                let count = count.unwrap_or_else(|| panic!("{beginning}: {answer} never occurred"));
+                println!("desk: {beginning}: {answer}: {count} times");
+            }
+        }
     }
 }
 
-// More VRPs than the table takes, between lines of every kind.
-#[test]
-fn a_full_table_agrees() {
-    let mut random = Random(31);
+// More VRPs of a kind than its family's table takes, between lines of every kind: one more is refused, and `other`, one of the
+// other family, is taken.
+fn agree_on_a_full_family(seed: u64, kind: u8, one_more: &str, other: &str) {
+    let mut random = Random(seed);
     let mut input = stream(&mut random, 20_000);
     input.push(b'\n');
-    input.extend(vrps(&mut random, 7_000));
-    input.extend(b"040A000000101800000001\n");
-    let line = input.iter().filter(|&&byte| byte == b'\n').count();
+    input.extend(vrps(&mut random, kind, 7_000));
+    let line = 1 + input.iter().filter(|&&byte| byte == b'\n').count();
+    input.extend(format!("{one_more}\n{other}\n").into_bytes());
     input.extend(stream(&mut random, 50_000));
-    let output = agree("a full table", &input);
-    let refused = format!("\n{line} 6 -\n").into_bytes();
+    let output = agree(&format!("a full table of kind {kind:02X}"), &input);
+    let answers = format!("\n{line} 6 -\n{} 0 -\n", line + 1).into_bytes();
     assert!(
-        output.windows(refused.len()).any(|part| part == refused),
-        "line {line} is a VRP too many"
+        output.windows(answers.len()).any(|part| part == answers),
+        "line {line} is a VRP too many, and the next one is none"
     );
+}
+
+#[test]
+fn full_tables_agree() {
+    let ipv4 = "040A000000101800000001";
+    let ipv6 = "1420010DB8000000000000000000000000203000000001";
+    agree_on_a_full_family(31, 0x04, ipv4, ipv6);
+    agree_on_a_full_family(32, 0x14, ipv6, ipv4);
 }
 
 #[test]
@@ -133,8 +149,7 @@ fn short_inputs_agree() {
 
 #[test]
 fn the_vectors_agree() {
-    let folder = Path::new(env!("CARGO_MANIFEST_DIR")).join("../vectors");
-    let read = |name: &str| std::fs::read(folder.join(name)).expect(name);
+    let read = |name: &str| std::fs::read(folder().join(name)).expect(name);
     let (input, output) = (read("desk.in"), read("desk.out"));
     let got = agree("desk.in", &input);
     assert!(got == output, "the desks differ from desk.out");

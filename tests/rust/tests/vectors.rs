@@ -1,58 +1,10 @@
-//! Every line of ../vectors but the desk's, through the library, the reference and fast Rust: the answer, the number beside it,
+//! Every line of ../vectors/Q-01 but the desk's, through the library, the reference and fast Rust: the answer, the number beside it,
 //! and the output buffer to its end.
 use bgp_policy::{table, Candidate, Offer, Session, BLOCK_MAX};
 use policy_tests::chain::{end, run, End, Hop};
-use policy_tests::lines::{bytes, every, number, optional, Compared};
+use policy_tests::lines::{all_run, bytes, call, every, number, optional, told, Compared};
 use policy_tests::sides::Side;
-use policy_tests::{counterpart, expected_buffer, patterns, shown};
-
-// One call in each of two buffers of `cap` bytes, against the three fields after `=>`: answer, number beside it, block stored.
-fn call(cap: &str, expected: &[&str], run: impl Fn(&mut [u8]) -> (u8, usize)) -> Compared {
-    let &[answer, beside, stored] = expected else {
-        panic!("{} fields after =>", expected.len());
-    };
-    let answer: u8 = number(answer);
-    let stored = (answer == 0).then(|| bytes(stored));
-    // On answer 0 the written length stands beside it, on a refusal the vector's number or, where it has none, 0.
-    let beside = match &stored {
-        Some(block) => block.len(),
-        None => optional(beside).unwrap_or(0),
-    };
-    for before in patterns(optional(cap).unwrap_or(BLOCK_MAX)) {
-        let mut out = before.clone();
-        let got = run(&mut out);
-        if got != (answer, beside) {
-            return Err(format!("answered {got:?}, expected {:?}", (answer, beside)));
-        }
-        let after = expected_buffer(&before, stored.as_deref());
-        if out != after {
-            let at = (0..out.len()).find(|&i| out[i] != after[i]).unwrap();
-            return Err(format!(
-                "the buffer differs from byte {at} on: {}, expected {}",
-                shown(&out[at..]),
-                shown(&after[at..])
-            ));
-        }
-    }
-    Ok(())
-}
-
-// A call that tells one number, against the three fields after `=>`: answer, number beside it, result.
-fn told(expected: &[&str], got: (u8, usize)) -> Compared {
-    let &[answer, beside, result] = expected else {
-        panic!("{} fields after =>", expected.len());
-    };
-    let answer: u8 = number(answer);
-    // On answer 0 the result stands beside it, on a refusal the vector's number or, where it has none, 0.
-    let beside = match answer {
-        0 => number(result),
-        _ => optional(beside).unwrap_or(0),
-    };
-    if got != (answer, beside) {
-        return Err(format!("answered {got:?}, expected {:?}", (answer, beside)));
-    }
-    Ok(())
-}
+use policy_tests::{counterpart, patterns};
 
 // open: local role, strict, parameters; result: remote role
 fn open_line(side: &Side, fields: &[&str]) -> Compared {
@@ -71,6 +23,17 @@ fn state_line(side: &Side, fields: &[&str]) -> Compared {
     };
     let (length, prefix, own_as) = (number(length), number(prefix), number(own_as));
     let got = (side.origin_state)(length, prefix, own_as, &bytes(table), &bytes(block));
+    told(&fields[6..], got)
+}
+
+// state6: prefix length, prefix (16 bytes), own AS, table, block; result: state
+fn state6_line(side: &Side, fields: &[&str]) -> Compared {
+    let &[length, prefix, own_as, table, block, "=>", ..] = fields else {
+        panic!("not the fields of state6: {fields:?}");
+    };
+    let prefix = bytes(prefix).try_into().expect("a prefix of 16 bytes");
+    let (length, prefix, own_as) = (number(length), u128::from_be_bytes(prefix), number(own_as));
+    let got = (side.origin_state6)(length, prefix, own_as, &bytes(table), &bytes(block));
     told(&fields[6..], got)
 }
 
@@ -203,7 +166,7 @@ fn chain_line(side: &Side, fields: &[&str]) -> Compared {
             hop: number(at),
             call: match call {
                 "send" => "send",
-                "recv" => "recv",
+                "receive" => "recv",
                 other => panic!("'{other}' is no call"),
             },
             told: (number(answer), optional(beside).unwrap_or(0)),
@@ -218,13 +181,18 @@ fn chain_line(side: &Side, fields: &[&str]) -> Compared {
     Ok(())
 }
 
-// A test for the lines of one kind in one file.
+// A test for the lines of one kind in one file, and one that no line is left out.
 macro_rules! lines {
     ($($test:ident: $file:literal, $kind:literal, $compare:ident;)+) => {
         $(#[test]
         fn $test() {
             every($file, $kind, $compare);
         })+
+
+        #[test]
+        fn every_line_is_run() {
+            all_run(&[$(($file, $kind)),+]);
+        }
     };
 }
 
@@ -234,11 +202,12 @@ lines! {
     functions_send: "functions.tsv", "send", send_line;
     functions_chain: "functions.tsv", "chain", chain_line;
     functions_state: "functions.tsv", "state", state_line;
+    functions_state6: "functions.tsv", "state6", state6_line;
     functions_tag: "functions.tsv", "tag", tag_line;
     functions_choose: "functions.tsv", "choose", choose_line;
     functions_better: "functions.tsv", "better", better_line;
     boundary_state: "boundary.tsv", "state", state_line;
-    boundary_tag: "boundary.tsv", "tag", tag_line;
+    boundary_state6: "boundary.tsv", "state6", state6_line;
     boundary_open: "boundary.tsv", "open", open_line;
     boundary_recv: "boundary.tsv", "recv", recv_line;
     boundary_send: "boundary.tsv", "send", send_line;

@@ -1,4 +1,5 @@
 //! The proved library as safe Rust: a crate to copy. `include/bgp_policy.h` says what the arguments and answers mean.
+mod raw;
 
 /// Document 01's size of an attribute block: an output buffer of this length is always enough.
 pub const BLOCK_MAX: usize = 4073;
@@ -13,81 +14,6 @@ pub struct Session {
     pub remote_as: u32,
     pub local_role: u8,
     pub mode: u8,
-}
-
-// A slice passes as its pointer and then its length.
-extern "C" {
-    fn bgp_open(
-        local_role: u8,
-        strict: u8,
-        parameters: *const u8,
-        parameters_len: usize,
-        beside: *mut usize,
-    ) -> u8;
-
-    fn bgp_receive(
-        local_as: u32,
-        remote_as: u32,
-        local_role: u8,
-        mode: u8,
-        block: *const u8,
-        block_len: usize,
-        out: *mut u8,
-        out_len: usize,
-        beside: *mut usize,
-    ) -> u8;
-
-    fn bgp_send(
-        local_as: u32,
-        remote_as: u32,
-        local_role: u8,
-        mode: u8,
-        source: u8,
-        state: u8,
-        block: *const u8,
-        block_len: usize,
-        out: *mut u8,
-        out_len: usize,
-        beside: *mut usize,
-    ) -> u8;
-
-    fn bgp_origin_state(
-        prefix_length: u8,
-        prefix: u32,
-        own_as: u32,
-        table: *const u8,
-        table_len: usize,
-        block: *const u8,
-        block_len: usize,
-        beside: *mut usize,
-    ) -> u8;
-
-    fn bgp_received_tag(block: *const u8, block_len: usize, beside: *mut usize) -> u8;
-
-    fn bgp_choose(
-        mode: u8,
-        client: u32,
-        buffer: *const u8,
-        buffer_len: usize,
-        candidates: *const u8,
-        candidates_len: usize,
-        beside: *mut usize,
-        left: *mut usize,
-    ) -> u8;
-
-    fn bgp_better(
-        first: *const u8,
-        first_len: usize,
-        state: u8,
-        identifier: u32,
-        address: u32,
-        second: *const u8,
-        second_len: usize,
-        other_state: u8,
-        other_identifier: u32,
-        other_address: u32,
-        beside: *mut usize,
-    ) -> u8;
 }
 
 /// A candidate as it is offered to choosing: its block is `size` bytes of one buffer, from `start` on.
@@ -130,7 +56,7 @@ pub fn open(local_role: u8, strict: u8, parameters: &[u8]) -> (u8, usize) {
     let mut beside = UNSET;
     // Safe: the pointer and length are those of a slice, and `beside` lies outside it.
     let answer = unsafe {
-        bgp_open(
+        raw::bgp_open(
             local_role,
             strict,
             parameters.as_ptr(),
@@ -146,7 +72,7 @@ pub fn receive(session: Session, block: &[u8], out: &mut [u8]) -> (u8, usize) {
     let mut beside = UNSET;
     // Safe: the pointers and lengths are those of slices, and `out`, being `&mut`, overlaps nothing.
     let answer = unsafe {
-        bgp_receive(
+        raw::bgp_receive(
             session.local_as,
             session.remote_as,
             session.local_role,
@@ -166,7 +92,7 @@ pub fn send(session: Session, source: u8, state: u8, block: &[u8], out: &mut [u8
     let mut beside = UNSET;
     // Safe: as in `receive`.
     let answer = unsafe {
-        bgp_send(
+        raw::bgp_send(
             session.local_as,
             session.remote_as,
             session.local_role,
@@ -194,9 +120,36 @@ pub fn origin_state(
     let mut beside = UNSET;
     // Safe: as in `open`.
     let answer = unsafe {
-        bgp_origin_state(
+        raw::bgp_origin_state(
             prefix_length,
             prefix,
+            own_as,
+            table.as_ptr(),
+            table.len(),
+            block.as_ptr(),
+            block.len(),
+            &mut beside,
+        )
+    };
+    (answer, beside)
+}
+
+/// The origin state of the IPv6 route `prefix`/`prefix_length`, the prefix's first byte the highest of its number: as
+/// `origin_state`, by VRPs of 22 bytes.
+pub fn origin_state6(
+    prefix_length: u8,
+    prefix: u128,
+    own_as: u32,
+    table: &[u8],
+    block: &[u8],
+) -> (u8, usize) {
+    let mut beside = UNSET;
+    // Safe: as in `open`.
+    let answer = unsafe {
+        raw::bgp_origin_state6(
+            prefix_length,
+            (prefix >> 64) as u64,
+            prefix as u64,
             own_as,
             table.as_ptr(),
             table.len(),
@@ -212,7 +165,7 @@ pub fn origin_state(
 pub fn received_tag(block: &[u8]) -> (u8, usize) {
     let mut beside = UNSET;
     // Safe: as in `open`.
-    let answer = unsafe { bgp_received_tag(block.as_ptr(), block.len(), &mut beside) };
+    let answer = unsafe { raw::bgp_received_tag(block.as_ptr(), block.len(), &mut beside) };
     (answer, beside)
 }
 
@@ -221,7 +174,7 @@ pub fn choose(mode: u8, client: u32, buffer: &[u8], candidates: &[u8]) -> (u8, u
     let (mut beside, mut left) = (UNSET, UNSET);
     // Safe: as in `open`; `left` lies outside the slices too.
     let answer = unsafe {
-        bgp_choose(
+        raw::bgp_choose(
             mode,
             client,
             buffer.as_ptr(),
@@ -240,7 +193,7 @@ pub fn better(first: Candidate, second: Candidate) -> (u8, usize) {
     let mut beside = UNSET;
     // Safe: as in `open`.
     let answer = unsafe {
-        bgp_better(
+        raw::bgp_better(
             first.block.as_ptr(),
             first.block.len(),
             first.state,

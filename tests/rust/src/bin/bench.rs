@@ -114,6 +114,18 @@ fn sessions_and_tables(table: &mut Table, random: &mut Random) -> Result<(), Str
             &block
         ))?;
     }
+    // from numbers of their own: the inputs of the rows that follow do not hang on them
+    let random = &mut seeded();
+    for count in [100, 4096] {
+        let vrps = inputs::vrps6(random, count);
+        both!(table, &format!("{count} VRPs"), |_out| origin_state6(
+            48,
+            inputs::UNCOVERED6,
+            64500,
+            &vrps,
+            &block
+        ))?;
+    }
     Ok(())
 }
 

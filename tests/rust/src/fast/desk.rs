@@ -1,15 +1,13 @@
 //! The desk: frames in hex lines in, one answer line for each out.
 use super::block::Block;
+use super::hex::{decode, encode, MAX_DIGITS};
 use super::opening::open;
-use super::origin::{is_vrp, validate, Prefix, VRP};
+use super::origin::{is_vrp, validate, Bits, Prefix};
 use super::passing::{is_session, receive_read, send};
 use super::{number, BAD_SETTING, BAD_VRP, DONE, MALFORMED, TOO_LONG, UNREADABLE};
 use super::{MAX_BLOCK, MAX_VRPS};
 use bgp_policy::Session;
 use std::io::Write;
-
-/// The most digits of a readable line.
-const MAX_DIGITS: usize = 8_192;
 
 /// The desk between two pieces of its input.
 pub struct Desk {
@@ -24,7 +22,9 @@ pub struct Desk {
 /// What one frame leaves for the next.
 struct Memory {
     session: Option<Session>,
+    /// The IPv4 VRPs, and the IPv6 ones.
     vrps: Vec<u8>,
+    vrps6: Vec<u8>,
     /// The result of the last frame: a receipt's state, then its block.
     result: [u8; 1 + MAX_BLOCK],
 }
@@ -53,6 +53,7 @@ impl Desk {
             memory: Memory {
                 session: None,
                 vrps: Vec::new(),
+                vrps6: Vec::new(),
                 result: [0; 1 + MAX_BLOCK],
             },
         }
@@ -111,11 +112,14 @@ impl Desk {
 impl Memory {
     /// The answer to a frame of at least one byte, and the length of its result.
     fn frame(&mut self, frame: &[u8]) -> (u8, usize) {
+        let rest = &frame[1..];
         let told = match frame[0] {
-            1 => self.open(&frame[1..]),
-            2 => self.receive(&frame[1..]),
-            3 => self.send(&frame[1..]),
-            4 => self.add_vrp(&frame[1..]),
+            0x01 => self.open(rest),
+            0x02 => receive::<u32>(self.session, &self.vrps, rest, &mut self.result),
+            0x03 => self.send(rest),
+            0x04 => add_vrp::<u32>(&mut self.vrps, rest),
+            0x12 => receive::<u128>(self.session, &self.vrps6, rest, &mut self.result),
+            0x14 => add_vrp::<u128>(&mut self.vrps6, rest),
             _ => (UNREADABLE, 0),
         };
         match told {
@@ -147,32 +151,6 @@ impl Memory {
         (answer, 1)
     }
 
-    fn receive(&mut self, frame: &[u8]) -> (u8, usize) {
-        let (Some(session), true) = (self.session, frame.len() >= 5) else {
-            return (UNREADABLE, 0);
-        };
-        let (route, block) = frame.split_at(5);
-        let prefix = Prefix {
-            length: route[0],
-            bits: number(&route[1..]),
-        };
-        if prefix.length > 32 {
-            return (BAD_SETTING, 0);
-        }
-        if block.len() > MAX_BLOCK {
-            return (TOO_LONG, 0);
-        }
-        let block = match Block::read(block) {
-            Ok(block) => block,
-            Err(fault) => return (MALFORMED, fault),
-        };
-        let (answer, length) = receive_read(&session, &block, &mut self.result[1..]);
-        if answer == DONE {
-            self.result[0] = validate(prefix, session.local_as, &self.vrps, &block);
-        }
-        (answer, 1 + length)
-    }
-
     fn send(&mut self, frame: &[u8]) -> (u8, usize) {
         match (self.session, frame) {
             (Some(session), &[source, state, ref block @ ..]) => {
@@ -181,56 +159,51 @@ impl Memory {
             _ => (UNREADABLE, 0),
         }
     }
-
-    fn add_vrp(&mut self, vrp: &[u8]) -> (u8, usize) {
-        if vrp.len() < VRP {
-            return (UNREADABLE, 0);
-        }
-        if vrp.len() > VRP || self.vrps.len() == MAX_VRPS * VRP {
-            return (TOO_LONG, 0);
-        }
-        if !is_vrp(vrp) {
-            return (BAD_VRP, 0);
-        }
-        self.vrps.extend_from_slice(vrp);
-        (DONE, 0)
-    }
 }
 
-/// The value of each hex digit, and 255 for every other byte.
-const DIGITS: [u8; 256] = digits();
-
-const fn digits() -> [u8; 256] {
-    let mut values = [255; 256];
-    let mut value = 0;
-    while value < 16 {
-        values[b"0123456789abcdef"[value] as usize] = value as u8;
-        values[b"0123456789ABCDEF"[value] as usize] = value as u8;
-        value += 1;
+/// A receipt on a session, if there is one, with the VRPs of the route's family.
+fn receive<B: Bits>(
+    session: Option<Session>,
+    vrps: &[u8],
+    frame: &[u8],
+    result: &mut [u8],
+) -> (u8, usize) {
+    let (Some(session), true) = (session, frame.len() > B::SIZE) else {
+        return (UNREADABLE, 0);
+    };
+    let (route, block) = frame.split_at(1 + B::SIZE);
+    let prefix = Prefix {
+        length: route[0],
+        bits: B::read(&route[1..]),
+    };
+    if prefix.length > B::WIDTH {
+        return (BAD_SETTING, 0);
     }
-    values
+    if block.len() > MAX_BLOCK {
+        return (TOO_LONG, 0);
+    }
+    let block = match Block::read(block) {
+        Ok(block) => block,
+        Err(fault) => return (MALFORMED, fault),
+    };
+    let (answer, length) = receive_read(&session, &block, &mut result[1..]);
+    if answer == DONE {
+        result[0] = validate(prefix, session.local_as, vrps, &block);
+    }
+    (answer, 1 + length)
 }
 
-/// Fills `frame` with the bytes of a line; false if the line is unreadable.
-fn decode(line: &[u8], frame: &mut Vec<u8>) -> bool {
-    if line.is_empty() || line.len() % 2 != 0 || line.len() > MAX_DIGITS {
-        return false;
+/// A VRP added to those of its family.
+fn add_vrp<B: Bits>(vrps: &mut Vec<u8>, vrp: &[u8]) -> (u8, usize) {
+    if vrp.len() < B::VRP {
+        return (UNREADABLE, 0);
     }
-    let mut bad = 0;
-    frame.clear();
-    frame.extend(line.chunks_exact(2).map(|pair| {
-        let (high, low) = (DIGITS[usize::from(pair[0])], DIGITS[usize::from(pair[1])]);
-        bad |= high | low;
-        high << 4 | low
-    }));
-    bad < 16
-}
-
-fn encode(bytes: &[u8], out: &mut Vec<u8>) {
-    let digit = |value: u8| b"0123456789ABCDEF"[usize::from(value)];
-    let start = out.len();
-    out.resize(start + 2 * bytes.len(), 0);
-    for (pair, byte) in out[start..].chunks_exact_mut(2).zip(bytes) {
-        pair.copy_from_slice(&[digit(byte >> 4), digit(byte & 15)]);
+    if vrp.len() > B::VRP || vrps.len() == MAX_VRPS * B::VRP {
+        return (TOO_LONG, 0);
     }
+    if !is_vrp::<B>(vrp) {
+        return (BAD_VRP, 0);
+    }
+    vrps.extend_from_slice(vrp);
+    (DONE, 0)
 }

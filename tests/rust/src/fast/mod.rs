@@ -1,8 +1,9 @@
-//! Document 01 in the best plain Rust that we can write: the same functions as the proved library's, over the same types, to
+//! Document 01, with document 02's Q-1, in the best plain Rust that we can write: the same functions as the proved library's, over the same types, to
 //! measure it against. The tests hold both to `reference`.
 mod block;
 mod choice;
 mod desk;
+mod hex;
 mod opening;
 mod origin;
 mod passing;
@@ -11,7 +12,7 @@ mod write;
 pub use choice::{better, choose};
 pub use desk::{desk, Desk};
 pub use opening::open;
-pub use origin::{origin_state, received_tag};
+pub use origin::{origin_state, origin_state6, received_tag};
 pub use passing::{receive, send};
 
 /// What a call tells: the answer, and the number beside it or 0 where there is none.

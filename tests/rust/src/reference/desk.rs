@@ -2,7 +2,7 @@
 use super::block::read;
 use super::input::Input;
 use super::opening::opened;
-use super::origin::{origin, state, vrp, Vrp, VRP_SIZE};
+use super::origin::{origin, state, vrp, vrp_size, Route, Vrp, IPV4, IPV6};
 use super::passing::{received, sent};
 use super::{check_session, demand, Refusal};
 use super::{BAD_VRP, BLOCK_MAX, DONE, OUT_OF_RANGE, TOO_LONG, UNREADABLE, VRPS_MAX};
@@ -11,7 +11,7 @@ use bgp_policy::Session;
 /// The most digits of a readable line.
 const DIGITS_MAX: usize = 8_192;
 
-/// What stays from line to line.
+/// What stays from line to line; the VRPs of both families stand in one list.
 struct Desk {
     session: Option<Session>,
     vrps: Vec<Vrp>,
@@ -65,9 +65,11 @@ impl Desk {
         let rest = &frame[1..];
         match frame[0] {
             0x01 => self.open(rest),
-            0x02 => self.receive(rest),
+            0x02 => self.receive(IPV4, rest),
             0x03 => self.send(rest),
-            0x04 => self.add_vrp(rest),
+            0x04 => self.add_vrp(IPV4, rest),
+            0x12 => self.receive(IPV6, rest),
+            0x14 => self.add_vrp(IPV6, rest),
             _ => Err(UNREADABLE),
         }
     }
@@ -83,14 +85,15 @@ impl Desk {
         Ok(vec![remote_role])
     }
 
-    /// "02 receipt (prefix length, prefix, block)"; "Validation comes after the receipt verdict, with the local AS as own."
-    fn receive(&self, frame: &[u8]) -> Result<Vec<u8>, Refusal> {
-        let (length, prefix, block) = receipt_frame(frame).ok_or(UNREADABLE)?;
+    /// "02 receipt (prefix length, prefix, block)"; Q-1: "Frame 12 is a receipt with a 16-byte prefix". "Validation comes after the
+    /// receipt verdict, with the local AS as own."
+    fn receive(&self, width: u8, frame: &[u8]) -> Result<Vec<u8>, Refusal> {
+        let (route, block) = receipt_frame(width, frame).ok_or(UNREADABLE)?;
         let session = self.session.ok_or(UNREADABLE)?;
-        demand(length <= 32, OUT_OF_RANGE)?;
+        demand(route.length <= width, OUT_OF_RANGE)?;
         let stored = received(session, block, BLOCK_MAX)?;
         let origin = origin(&read(block)?, session.local_as);
-        let state = state(length, prefix, origin, &self.vrps);
+        let state = state(route, origin, &self.vrps);
         Ok([vec![state], stored].concat())
     }
 
@@ -101,12 +104,14 @@ impl Desk {
         sent(session, source, state, block, BLOCK_MAX)
     }
 
-    /// "04 one VRP". "A 04 frame of more than 11 bytes is 6"; "VRPs stay; one more than 4,096 is 6."
-    fn add_vrp(&mut self, record: &[u8]) -> Result<Vec<u8>, Refusal> {
-        demand(record.len() >= VRP_SIZE, UNREADABLE)?;
-        demand(record.len() <= VRP_SIZE, TOO_LONG)?;
-        demand(self.vrps.len() < VRPS_MAX, TOO_LONG)?;
-        self.vrps.push(vrp(record).ok_or((BAD_VRP, 0))?);
+    /// "04 one VRP". "A 04 frame of more than 11 bytes is 6"; "VRPs stay; one more than 4,096 is 6." Q-1: "frame 14 an IPv6 VRP,
+    /// 23 bytes in all"; "The VRP limit is 4,096 per family".
+    fn add_vrp(&mut self, width: u8, record: &[u8]) -> Result<Vec<u8>, Refusal> {
+        demand(record.len() >= vrp_size(width), UNREADABLE)?;
+        demand(record.len() <= vrp_size(width), TOO_LONG)?;
+        let family = self.vrps.iter().filter(|held| held.width == width);
+        demand(family.count() < VRPS_MAX, TOO_LONG)?;
+        self.vrps.push(vrp(width, record).ok_or((BAD_VRP, 0))?);
         Ok(Vec::new())
     }
 }
@@ -125,10 +130,15 @@ fn session_frame(frame: &[u8]) -> Option<(Session, u8, &[u8])> {
     Some((session, strict, input.0))
 }
 
-/// Prefix length, prefix and block; none if the frame is short.
-fn receipt_frame(frame: &[u8]) -> Option<(u8, u32, &[u8])> {
+/// The route and the block; none if the frame is short.
+fn receipt_frame(width: u8, frame: &[u8]) -> Option<(Route, &[u8])> {
     let mut input = Input(frame);
-    Some((input.byte()?, input.number(4)?, input.0))
+    let route = Route {
+        width,
+        length: input.byte()?,
+        prefix: input.prefix(width)?,
+    };
+    Some((route, input.0))
 }
 
 /// Source, state and block; none if the frame is short.

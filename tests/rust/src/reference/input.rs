@@ -24,6 +24,12 @@ impl<'a> Input<'a> {
         Some(bytes.fold(0, |high, low| high * 256 + u32::from(*low)))
     }
 
+    /// A prefix of `width` bits, whole bytes of them, as a number: the first bit is the highest.
+    pub fn prefix(&mut self, width: u8) -> Option<u128> {
+        let bytes = self.bytes(usize::from(width) / 8)?.iter();
+        Some(bytes.fold(0, |high, low| high * 256 + u128::from(*low)))
+    }
+
     pub fn byte(&mut self) -> Option<u8> {
         Some(self.bytes(1)?[0])
     }

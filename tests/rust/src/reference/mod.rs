@@ -1,6 +1,6 @@
-//! Document 01 in plain Rust, written from its text alone and slow on purpose: whole lists that are read, altered and written
-//! anew. The tests compare the proved library with it. A file follows a section of the document; sentences in quotes are the
-//! document's.
+//! Document 01 in plain Rust, with document 02's Q-1, written from their text alone and slow on purpose: whole lists that are read,
+//! altered and written anew. The tests compare the proved library with it. A file follows a section of document 01; sentences in
+//! quotes are its, after "Q-1:" those of that request.
 mod block;
 mod choice;
 mod desk;
@@ -13,7 +13,7 @@ pub use block::{read, Attribute};
 pub use choice::{better, choose};
 pub use desk::desk;
 pub use opening::open;
-pub use origin::{origin_state, received_tag};
+pub use origin::{origin_state, origin_state6, received_tag};
 pub use passing::{receive, send};
 
 use bgp_policy::Session;

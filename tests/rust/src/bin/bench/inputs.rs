@@ -6,6 +6,9 @@ use policy_tests::generate::Random;
 /// The address of a route that none of the VRPs covers, which all begin with a 0 bit.
 pub const UNCOVERED: u32 = 0xC000_0200;
 
+/// The prefix of an IPv6 route that none of the VRPs covers; those that agree with it in 32 bits differ in the next.
+pub const UNCOVERED6: u128 = 0x2001_0DB8_0001 << 80;
+
 /// The parameters of an OPEN, one capability to each: multiprotocol, route refresh, the role, and four-octet AS numbers.
 pub fn parameters(role: u8) -> Vec<u8> {
     let mut bytes = vec![2, 6, 1, 4, 0, 1, 0, 1, 2, 2, 2, 0, 2, 3, 9, 1, role];
@@ -71,6 +74,26 @@ pub fn vrps(random: &mut Random, count: usize) -> Vec<u8> {
             length,
             length + random.below(33 - usize::from(length)) as u8,
         ]);
+        bytes.extend(asn(random));
+    }
+    bytes
+}
+
+/// IPv6 VRPs of 22 bytes each, with lengths of 32 to 48: half of them in 2a00::/12, the others in 2001::/16, a few of these in
+/// 2001:db8:8000::/33.
+pub fn vrps6(random: &mut Random, count: usize) -> Vec<u8> {
+    let mut bytes = Vec::new();
+    for _ in 0..count {
+        let drawn = random.draw();
+        let (first, least) = match random.below(8) {
+            0 => (0x2001_0DB8_8000 | drawn & 0x7FFF, 33),
+            1..=3 => (0x2001_0000_0000 | drawn & 0xFFFF_FFFF, 32),
+            _ => (0x2A00_0000_0000 | drawn & 0xF_FFFF_FFFF, 32),
+        };
+        let length = least + random.below(49 - least);
+        let maximum = length + random.below(49 - length);
+        bytes.extend((u128::from(first) << 80).to_be_bytes());
+        bytes.extend([length as u8, maximum as u8]);
         bytes.extend(asn(random));
     }
     bytes
