@@ -1,4 +1,3 @@
--- Laws of where two numbers differ, of the words of a prefix, and of one record.
-pub mod Differing
+-- Laws of the words of a prefix, and of one record.
 pub mod Words
 pub mod Records

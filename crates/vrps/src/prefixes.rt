@@ -44,13 +44,15 @@ pub fn words6(high: u64, low: u64) -> Words
     }
 }
 
-// Whether two words agree in their n leading bits: nothing is left of where they differ without the bits after them. Internal.
+// "A VRP covers a route if its length is not greater and that many leading bits agree; later bits never count" (01; RFC 6811 section 2).
+// Whether n leading bits of two words agree. Internal.
 pub fn same_leading(a: u32, b: u32, n: u8) -> bool
     requires { ⌜ n ≤ 32 ⌝ }
     ensures { λ r. ⌜ r ≡ agree 32 n a b ⌝ }
 {
-    let after = WORD - n;
-    ((a ^ b) as u64) >> after == 0
+    let later_bits = WORD - n;
+    let power_of_two = 1u64 << later_bits;
+    (a as u64) / power_of_two == (b as u64) / power_of_two
 }
 
 // Word k of a prefix, counted from the leading one. Internal.
@@ -65,8 +67,7 @@ fn word(prefix: Words, k: usize) -> u32
     }
 }
 
-// Whether a prefix in bytes and one in words agree in their n leading bits: word by word, and in the bits that are left of the last one.
-// Internal.
+// Whether n leading bits of a prefix in bytes and of one in words agree: first the whole words, then the one that is cut. Internal.
 pub fn same_prefix(bytes: &[u8], prefix: Words, n: u8) -> bool
     requires { ⌜ (Whole (8 * length (now bytes))) × (n ≤ 8 * length (now bytes)) ⌝ }
     ensures { λ r. ⌜ r ≡ agree (8 * length (now (bytes .entry))) n (bigEndian (now (bytes .entry))) (prefixIn (8 * length (now (bytes .entry))) prefix) ⌝ }
