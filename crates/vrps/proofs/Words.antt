@@ -15,7 +15,7 @@ use lib.Pow.{shr-shr, shr-lt, high, low, split}
 use Rattle.rules.specs.declared.Words.{Words}
 use Rattle.rules.specs.Bytes.{bigEndian, part}
 use Rattle.rules.specs.Origin.{spelled, prefixIn, agree}
-use Rattle.rules.proofs.Prefixes.{wordAt, words-equal, walk-last, walk-next, walk-differs}
+use Rattle.rules.proofs.Prefixes.{wordAt, bits-low, words-equal, walk-last, walk-next, walk-differs}
 use Rattle.octets.specs.Numbers.{Octets}
 use Rattle.octets.proofs.Slices.{part-is}
 use Rattle.octets.proofs.Numbers.{big-endian-below, word-bytes}
@@ -75,6 +75,20 @@ module _ (p : Words) (f : Ranged p) where
   spelled-word (suc (suc (suc zero))) h = rw (div-one (spelled p)) fourth
   spelled-word (suc (suc (suc (suc k)))) h = absurd (omega arith)
 
+  -- Octet i stands in word i / 4.
+  pub word-octet : (i : ℕ) → i < 16 → wordIn p (i / 4) / 2 ^ (24 - 8 * (i % 4)) % 2 ^ 8 ≡ spelled p / 2 ^ (120 - 8 * i) % 2 ^ 8
+  word-octet i h =
+      let d : 32 ≡ 8 * (i % 4) + 8 + (24 - 8 * (i % 4)) = omega arith in
+      let k : i / 4 < 4 = omega arith in
+      let e : 128 - 32 * suc (i / 4) + (24 - 8 * (i % 4)) ≡ 120 - 8 * i = at (i / 4) (i % 4) k (omega arith) ∙ ap (λ (n : ℕ). 120 - 8 * n) (omega arith) in
+      ap (λ (n : ℕ). n / 2 ^ (24 - 8 * (i % 4)) % 2 ^ 8) (sym (spelled-word (i / 4) (omega arith)))
+      ∙ ap (λ (n : ℕ). spelled p / 2 ^ (128 - 32 * suc (i / 4)) % 2 ^ n / 2 ^ (24 - 8 * (i % 4)) % 2 ^ 8) d
+      ∙ bits-low (spelled p / 2 ^ (128 - 32 * suc (i / 4))) (24 - 8 * (i % 4)) (8 * (i % 4)) 8
+      ∙ ap (λ (n : ℕ). n % 2 ^ 8) (shr-shr (spelled p) (128 - 32 * suc (i / 4)) (24 - 8 * (i % 4)) ∙ ap (λ (n : ℕ). spelled p / 2 ^ n) e)
+    where
+      at : (k r : ℕ) → k < 4 → r < 4 → 128 - 32 * suc k + (24 - 8 * r) ≡ 120 - 8 * (4 * k + r)
+      at k r h l = omega arith
+
   pub prefix-word : (w k : ℕ) → 32 * suc k ≤ w → w ≤ 128 → wordAt w (prefixIn w p) k ≡ wordIn p k
   unfolding prefixIn
   prefix-word w k l m =
@@ -82,7 +96,7 @@ module _ (p : Words) (f : Ranged p) where
       ap (λ (n : ℕ). n % 2 ^ 32) (shr-shr (spelled p) (128 - w) (w - 32 * suc k) ∙ ap (λ (n : ℕ). spelled p / 2 ^ n) e) ∙ spelled-word k (omega arith)
 
   -- It is less than a number of w bits.
-  prefix-below : (w : ℕ) → w ≤ 128 → prefixIn w p < 2 ^ w
+  pub prefix-below : (w : ℕ) → w ≤ 128 → prefixIn w p < 2 ^ w
   unfolding prefixIn spelled
   prefix-below w m =
       let e : 128 ≡ w + (128 - w) = omega arith in
@@ -95,6 +109,12 @@ module _ (p : Words) (f : Ranged p) where
   prefix-bytes s w o words =
       words-equal (8 * length s) _ _ (w .even) (prefix-below (8 * length s) (w .most)) (big-endian-below s o)
       (λ k l. prefix-word (8 * length s) k l (w .most) ∙ words k (omega arith) ∙ sym (word-bytes s o k (omega arith)))
+
+-- Bit j of an octet, counted from the last, is a bit of the number that the octet was cut out of.
+pub octet-bit : (x a j : ℕ) → j < 8 → x / 2 ^ a % 2 ^ 8 / 2 ^ j % 2 ≡ x / 2 ^ (a + j) % 2
+octet-bit x a j h =
+    let d : 8 ≡ 7 - j + 1 + j = omega arith in
+    ap (λ (n : ℕ). x / 2 ^ a % 2 ^ n / 2 ^ j % 2) d ∙ bits-low (x / 2 ^ a) j (7 - j) 1 ∙ ap (λ (n : ℕ). n % 2) (shr-shr x a j)
 
 -- Where a prefix of whole words goes on, it has a whole word more.
 word-room : (w k : ℕ) → w % 32 ≡ 0 → 32 * k < w → 32 * suc k ≤ w

@@ -3,11 +3,11 @@ use octets::number4_at;
 use rules::Words;
 ghost use mathlib.Core.Path.{_≡_};
 ghost use mathlib.Core.Bool.{cond};
-ghost use Prim.Native.Nat.{_+_, _*_, _≤_, _<_, _^_};
+ghost use Prim.Native.Nat.{_+_, _-_, _*_, _/_, _%_, _^_, _≤_, _<_};
 ghost use lib.Dec.{leb};
 ghost use lib.ListN.{length};
 ghost use Rattle.rules.specs.Bytes.{bigEndian, part};
-ghost use Rattle.rules.specs.Origin.{ipv4, ipv6, prefixIn, agree};
+ghost use Rattle.rules.specs.Origin.{ipv4, ipv6, spelled, prefixIn, bitAt, agree};
 ghost use Rattle.vrps.specs.Widths.{Whole, wordIn};
 
 // The width of a prefix in bits, for IPv4 and IPv6.
@@ -65,6 +65,22 @@ fn word(prefix: Words, k: usize) -> u32
         2 => prefix.third,
         _ => prefix.fourth,
     }
+}
+
+// Octet i of a prefix, counted from the leading one. Internal.
+pub fn octet(prefix: Words, i: usize) -> u32
+    requires { ⌜ i < 16 ⌝ }
+    ensures { λ r. ⌜ r ≡ spelled prefix / 2 ^ (120 - 8 * i) % 2 ^ 8 ⌝ }
+{
+    (word(prefix, i / 4) >> (24 - 8 * (i % 4))) % 256
+}
+
+// Bit i of a prefix, counted from the leading one. Internal.
+pub fn bit(prefix: Words, i: usize) -> usize
+    requires { ⌜ i < 128 ⌝ }
+    ensures { λ r. ⌜ (r ≡ bitAt 128 (spelled prefix) i) × (r < 2) ⌝ }
+{
+    ((octet(prefix, i / 8) >> (7 - i % 8)) % 2) as usize
 }
 
 // Whether n leading bits of a prefix in bytes and of one in words agree: first the whole words, then the one that is cut. Internal.
