@@ -1,0 +1,3 @@
+-- The look-up in any memory, and what its steps promise.
+pub mod Look
+pub mod Descent
