@@ -30,6 +30,12 @@ module _ (w : ℕ) (table : List ℕ) (at : ℕ) where
   unfolding vrps
   vrps-end h = ap (map (vrp w)) (items-end (vrpSize w) table at h)
 
+  -- Where no record from the position on is bad, the one there is not, nor those after it.
+  pub good-next : vrpSize w ≤ length table - at → GoodTable w (drop at table)
+      → Good w (take (at + vrpSize w - at) (drop at table)) × GoodTable w (drop (at + vrpSize w) table)
+  unfolding exists
+  good-next h g = neither _ _ (ap (exists (badVrp w)) (sym (vrps-next h)) ∙ g)
+
 -- A record by itself, and tables one after the other, the first of whole records.
 module _ (w : ℕ) where
   pub size-pos : 0 < vrpSize w
@@ -59,11 +65,6 @@ pub record Scanning (w : ℕ) (table : List ℕ) (prefix len : ℕ) (origin : Op
   pub good : GoodTable w (drop at table)
   pub state : stateFrom covered w (vrps w (drop at table)) prefix len origin ≡ stateIn w (vrps w table) prefix len origin
 
--- Where no record is bad, the first is not, nor those after it.
-good-each : (w : ℕ) (v : Vrp) (l : List Vrp) → exists (badVrp w) (v ∷ l) ≡ false → (badVrp w v ≡ false) × (exists (badVrp w) l ≡ false)
-unfolding exists
-good-each w v l g = neither (badVrp w v) (exists (badVrp w) l) g
-
 -- By what the first record is to the route: it matches, or those after it decide, with whether it covers.
 state-next : (w prefix len : ℕ) (origin : Option ℕ) (covered : Bool) (v : Vrp) (l : List Vrp) {met : ℕ} → met ≡ weighed w v prefix len origin
     → stateFrom covered w (v ∷ l) prefix len origin ≡ cond (eqb met 2) valid (stateFrom (covered || eqb met 1) w l prefix len origin)
@@ -92,11 +93,8 @@ module _ {w : ℕ} {table : List ℕ} {prefix len : ℕ} {origin : Option ℕ} {
 
   -- One is left, and it matches or does not.
   module _ (h : vrpSize w ≤ length table - at) where
-    both-good : Good w (take (at + vrpSize w - at) (drop at table)) × GoodTable w (drop (at + vrpSize w) table)
-    both-good = good-each w _ _ (ap (exists (badVrp w)) (sym (vrps-next w table at h)) ∙ s .good)
-
     pub scan-good : Good w (take (at + vrpSize w - at) (drop at table))
-    scan-good = both-good .0
+    scan-good = good-next w table at h (s .good) .0
 
     module _ {met : ℕ} (e : met ≡ weighed w (vrp w (take (at + vrpSize w - at) (drop at table))) prefix len origin) where
       step : stateFrom covered w (vrps w (drop at table)) prefix len origin
@@ -108,4 +106,4 @@ module _ {w : ℕ} {table : List ℕ} {prefix len : ℕ} {origin : Option ℕ} {
 
       pub scan-past : (met ≡ 2 → ⊥) → {more : Bool} → more ≡ covered || eqb met 1 → Scanning w table prefix len origin more (at + vrpSize w)
       scan-past q c =
-          record { within = omega arith; good = both-good .1; state = rw c (sym (step ∙ rw (ne-eqb met 2 q) refl) ∙ s .state) }
+          record { within = omega arith; good = good-next w table at h (s .good) .1; state = rw c (sym (step ∙ rw (ne-eqb met 2 q) refl) ∙ s .state) }

@@ -1,0 +1,2 @@
+-- What a run over the records of a table leaves in memory. Over any width.
+pub mod Filling
