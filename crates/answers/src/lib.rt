@@ -1,6 +1,8 @@
 // Answers as numbers, for callers in C and Rust: the answer number as the result, and through `beside` the number beside it.
 use rules::Advertised;
 use rules::Chosen;
+use rules::Indexed;
+use rules::LookedUp;
 use rules::Opened;
 use rules::Received;
 use rules::Refusal;
@@ -8,6 +10,7 @@ use rules::Stated;
 use settings::answers::refusal_number;
 ghost use mathlib.Core.Path.{_≡_};
 ghost use Rattle.rules.specs.Answers.{refused, number, answerNumber, besideNumber, toldOpened, toldReceived, toldAdvertised, toldStated};
+ghost use Rattle.rules.specs.Index.{toldIndexed, toldLookedUp, LookUpNumbers};
 ghost use Rattle.rules.specs.Choice.{toldChosen, indexTold, leftTold};
 
 // The number beside a refusal; 0 where it has none.
@@ -81,6 +84,38 @@ pub fn report_stated(answer: Stated, beside: &mut usize) -> u8
             0
         }
         Stated::Refused(refusal) => report_refusal(refusal, beside),
+    }
+}
+
+// An answer of a build or an insertion as numbers: likewise, with how many nodes the index has on answer 0.
+pub fn report_indexed(answer: Indexed, beside: &mut usize) -> u8
+    ensures { λ r. ⌜ (r ≡ answerNumber (toldIndexed answer)) × (now (beside .exit) ≡ besideNumber (toldIndexed answer)) ⌝ }
+{
+    match answer {
+        Indexed::Nodes(nodes) => {
+            *beside = nodes;
+            0
+        }
+        Indexed::Refused(refusal) => report_refusal(refusal, beside),
+    }
+}
+
+// An answer of a look-up as numbers: likewise, with the state on answer 0, and through `visited` how many nodes were visited, 0 on a
+// refusal.
+pub fn report_looked_up(answer: LookedUp, beside: &mut usize, visited: &mut usize) -> u8
+    ensures { λ r. ⌜ LookUpNumbers (toldLookedUp answer) r (now (beside .exit)) (now (visited .exit)) ⌝ }
+{
+    *visited = 0;
+    match answer {
+        LookedUp::Found {
+            state,
+            visited: nodes,
+        } => {
+            *beside = state;
+            *visited = nodes;
+            0
+        }
+        LookedUp::Refused(refusal) => report_refusal(refusal, beside),
     }
 }
 

@@ -1,4 +1,6 @@
 // The library for callers in C and Rust: numbers, slices and numbers handed back. include/bgp_policy.h declares it.
+pub mod vrp_index;
+
 use answers::report_advertised;
 use answers::report_chosen;
 use answers::report_opened;
