@@ -1,8 +1,8 @@
 /*
  * Routing policy for BGP, for C: opening of sessions under RFC 9234 roles, receipt and sending of their attribute blocks, the
- * origin state of IPv4 and IPv6 unicast routes (RFC 6811), the state that a received tag tells (RFC 8097), and the choice of a
- * route for a route-server client. The functions are in libbgp_policy.a, which install.sh puts beside this file under a folder; as
- * built it is target/staticlib/libc_api.a.
+ * origin state of IPv4 and IPv6 unicast routes (RFC 6811), by a scan of the VRPs or by an index over them, the state that a
+ * received tag tells (RFC 8097), and the choice of a route for a route-server client. The functions are in libbgp_policy.a, which
+ * install.sh puts beside this file under a folder; as built it is target/staticlib/libc_api.a.
  */
 #ifndef BGP_POLICY_H
 #define BGP_POLICY_H
@@ -11,7 +11,7 @@
 #include <stdint.h>
 
 /* The version of this interface; the pkg-config file has it too. */
-#define BGP_POLICY_VERSION "0.2.0"
+#define BGP_POLICY_VERSION "0.3.0"
 
 #ifdef __cplusplus
 extern "C" {
@@ -65,9 +65,16 @@ extern "C" {
  *
  * Of comparing two: for each its block, state (0 to 3), the sender's identifier and address
  *
- * Settings of any value, parameters, tables and blocks of any bytes and a buffer of any length have an answer. But every
- * pointer must be usable (never NULL, also where the length is 0), out must not overlap block, and *beside and *left must lie
- * in none of the bytes handed in or out, nor be the same.
+ * Of the index (build, insertion, look-up): table, prefix_length and prefix as those of the origin state of its family
+ * memory, memory_len    the memory that holds the index: where it begins, and how many 32-bit numbers it has; see below
+ * record, record_len    the VRP to insert: where it begins, and how many bytes it has, 10 or of IPv6 22
+ * records, nodes        how many VRPs the table has whose index the memory holds, and how many nodes that index
+ * origin                the AS that originates the route; 0 for none, which matches no VRP
+ * visited               where it goes how many nodes the look-up visited, 0 unless the answer is 0
+ *
+ * Settings of any value, parameters, tables, records and blocks of any bytes and buffers and memories of any length have an
+ * answer. But every pointer must be usable (never NULL, also where the length is 0), out must not overlap block, memory must
+ * not overlap table or record, and *beside, *left and *visited must lie in none of the bytes handed in or out, nor be the same.
  *
  * Answers, and what *beside becomes
  *
@@ -78,33 +85,38 @@ extern "C" {
  *       origin state, received tag                          the state: 0 valid, 1 not found, 2 invalid; of a tag also 3,
  *                                                           unavailable
  *       choosing, comparing two                             the index of the route, from 0
+ *       build, insertion: the memory holds the index        how many nodes it has
+ *       look-up                                             the state: 0 valid, 1 not found, 2 invalid
  *  1  ineligible, a leak (receipt only)                     the rule of receipt, 1 or 2
  *  2  withheld (sending only)                               the rule of sending, 1, 2 or 3
  *  3  attributes malformed, treat as withdraw (receipt,
  *     sending, origin state, received tag)                  the fault, 1 to 6
  *  4  session rejected, NOTIFICATION 2/11 (opening only)    0
- *  5  a setting is out of range (all but received tag and
- *     comparing two)                                        0
+ *  5  a setting is out of range (all but received tag,
+ *     comparing two, build and insertion)                   0
  *  6  too long: parameters of more than 255 bytes, a block
  *     of more than 4,073 (in choosing 10), a table of more
  *     than 4,096 VRPs or 64 candidates; or a table whose
  *     length is no multiple of 10 (IPv4 VRPs), of 22 (IPv6
- *     VRPs) or of 17 (candidates)                           0
+ *     VRPs) or of 17 (candidates); or a record to insert
+ *     that is not one VRP, or one VRP too many              0
  *  7  no room: the result is longer than out or than 4,073
- *     (receipt and sending)                                 0
+ *     (receipt and sending), or the memory has too few
+ *     numbers for the index (build and insertion)           0
  *  8  OPEN parameters malformed (opening only)              0
  *  9  bad VRP record: its length above its maximum, or its
  *     maximum above 32, of IPv6 VRPs above 128 (origin
- *     state only)                                           the index of the first one, from 0
+ *     state, build and insertion)                           the index of the first one, from 0; of one to insert
+ *                                                           what it would have, which is records
  * 10  bad candidate: outside the buffer, more than 4,073
  *     bytes, state above 3, or malformed (choosing and
  *     comparing two)                                        the index of the first one, from 0
  * 11  no route to choose (choosing only)                    0
  *
  * Where several apply, opening gives the first of 5, 6, 8, 4, receipt and sending the first of 5, 6, 3, 1 or 2, 7, origin
- * state the first of 5, 6, 9, 3, and choosing the first of 5, 6, 10, 11.
+ * state the first of 5, 6, 9, 3, choosing the first of 5, 6, 10, 11, and build and insertion the first of 6, 9, 7.
  * Every call sets *beside. Only answer 0 stores anything in out, and then the bytes past the length in *beside stay as
- * they were.
+ * they were. Only answer 0 stores anything in memory, but for one exception: a build with answer 7 leaves it all zeros.
  */
 
 /* Opening: whether the role that the other end names agrees with this end's, and which role it has. */
@@ -171,6 +183,59 @@ uint8_t bgp_better(const uint8_t *first, size_t first_len, uint8_t state, uint32
                    const uint8_t *second, size_t second_len,
                    uint8_t other_state, uint32_t other_identifier, uint32_t other_address,
                    size_t *beside);
+
+/*
+ * The index over a table of VRPs: a tree of their prefixes, one bit to a level, by which a look-up finds the state that a scan of
+ * the table finds, in at most prefix_length + 1 steps from node to node. There is an index for IPv4 VRPs and one for IPv6 VRPs.
+ *
+ * The memory is the caller's, and may hold anything before a build. Three of its numbers, a triple, go to each VRP and to each
+ * node; what is left of its length makes no triple. The nodes are the leading parts of the prefixes, each up to its own length,
+ * counted once, and the root, which also an empty table has. So n VRPs surely fit in n * 33 + 1 triples, of IPv6 in n * 129 + 1:
+ *
+ *     memory_len = 3 * (n * 33 + 1), of IPv6 3 * (n * 129 + 1); 12 bytes to a triple, and for n = 4,096 1.6 MB, of IPv6 6.3 MB
+ *
+ * Most tables take less. Of 4,096 VRPs each, all /24s at random from all of IPv4 took 57,800 triples (0.7 MB), and all /48s at
+ * random from four /16s, 2001::/16 to 2004::/16, took 98,900 (1.2 MB).
+ *
+ * What the numbers mean is the library's own. Look-ups in one memory may run on several threads at once, while no build and no
+ * insertion runs there.
+ */
+
+/*
+ * Build: makes the index of a table, whatever the memory held. Answer 7 is given exactly where the nodes exceed the triples that
+ * the VRPs leave; the memory is then all zeros.
+ */
+uint8_t bgp_index_build(const uint8_t *table, size_t table_len,
+                        uint32_t *memory, size_t memory_len,
+                        size_t *beside);
+uint8_t bgp_index_build6(const uint8_t *table, size_t table_len,
+                         uint32_t *memory, size_t memory_len,
+                         size_t *beside);
+
+/*
+ * Insertion: one VRP more at the end of the table, with the answer and the index that a build of the longer table has, but that
+ * answer 7 too leaves the memory as it was. The caller keeps both numbers that it takes, from the build on: records grows by one
+ * with each answer 0, and nodes becomes *beside. In a memory that does not hold an index of so many records and nodes it ends with
+ * some answer; nothing else is promised but that a refusal leaves the memory as it was.
+ */
+uint8_t bgp_index_insert(const uint8_t *record, size_t record_len,
+                         uint32_t *memory, size_t memory_len, size_t records, size_t nodes,
+                         size_t *beside);
+uint8_t bgp_index_insert6(const uint8_t *record, size_t record_len,
+                          uint32_t *memory, size_t memory_len, size_t records, size_t nodes,
+                          size_t *beside);
+
+/*
+ * Look-up: the state of a route by the table whose index the memory holds, as the origin state of a block whose path ends in the
+ * origin. The nodes visited are all those on the route's prefix up to its own length, the root among them, also past a match. In
+ * any other memory it ends with some state from 0 to 3, and with at most prefix_length + 1 nodes visited.
+ */
+uint8_t bgp_index_look_up(const uint32_t *memory, size_t memory_len,
+                          uint8_t prefix_length, uint32_t prefix, uint32_t origin,
+                          size_t *beside, size_t *visited);
+uint8_t bgp_index_look_up6(const uint32_t *memory, size_t memory_len,
+                           uint8_t prefix_length, uint64_t prefix_high, uint64_t prefix_low, uint32_t origin,
+                           size_t *beside, size_t *visited);
 
 #ifdef __cplusplus
 }

@@ -3,8 +3,10 @@
 pub mod chain;
 pub mod fast;
 pub mod generate;
+pub mod indexing;
 pub mod lines;
 pub mod reference;
+pub mod shapes;
 pub mod sides;
 pub mod stream;
 pub mod tables;

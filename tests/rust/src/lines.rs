@@ -1,4 +1,4 @@
-//! The lines of ../vectors/Q-01; ../vectors/README.md says what they hold.
+//! The lines of ../vectors; ../vectors/README.md says what they hold.
 use crate::sides::{Side, SIDES};
 use crate::{expected_buffer, hex, patterns, shown};
 use bgp_policy::BLOCK_MAX;
@@ -7,15 +7,19 @@ use std::path::{Path, PathBuf};
 /// The result of a line: nothing, or how it differs.
 pub type Compared = Result<(), String>;
 
-/// The folder of the vectors.
+/// The folder of the vectors of all functions but the index.
 pub fn folder() -> PathBuf {
     Path::new(env!("CARGO_MANIFEST_DIR")).join("../vectors/Q-01")
 }
 
-// The text of a file of the folder.
-fn text(file: &str) -> String {
-    let path = folder().join(file);
-    std::fs::read_to_string(&path).unwrap_or_else(|e| panic!("{}: {e}", path.display()))
+/// The folder of the vectors of the index.
+pub fn index_folder() -> PathBuf {
+    Path::new(env!("CARGO_MANIFEST_DIR")).join("../vectors/Q-07")
+}
+
+/// The text of a file.
+pub fn text(path: &Path) -> String {
+    std::fs::read_to_string(path).unwrap_or_else(|e| panic!("{}: {e}", path.display()))
 }
 
 /// Every line of every table in the folder is of one of these kinds, each named with its file.
@@ -24,7 +28,7 @@ pub fn all_run(kinds: &[(&str, &str)]) {
     let names = entries.map(|entry| entry.expect("a name").file_name());
     let names = names.map(|name| name.into_string().expect("a name in letters"));
     for file in names.filter(|name| name.ends_with(".tsv")) {
-        for (number, line) in text(&file).lines().enumerate() {
+        for (number, line) in text(&folder().join(&file)).lines().enumerate() {
             let kind = line.split('\t').next().unwrap_or_default();
             let run = kinds.contains(&(&file, kind));
             assert!(
@@ -41,7 +45,7 @@ pub fn all_run(kinds: &[(&str, &str)]) {
 pub fn every(file: &str, kind: &str, compare: fn(&Side, &[&str]) -> Compared) {
     let mut ran = 0;
     let mut differing = Vec::new();
-    for (number, line) in text(file).lines().enumerate() {
+    for (number, line) in text(&folder().join(file)).lines().enumerate() {
         let fields: Vec<&str> = line.split('\t').collect();
         if fields[0] != kind {
             continue;

@@ -1,5 +1,9 @@
 //! The proved library as safe Rust: a crate to copy. `include/bgp_policy.h` says what the arguments and answers mean.
+mod index;
 mod raw;
+
+pub use index::{index_build, index_build6, index_insert, index_insert6};
+pub use index::{index_look_up, index_look_up6};
 
 /// Document 01's size of an attribute block: an output buffer of this length is always enough.
 pub const BLOCK_MAX: usize = 4073;

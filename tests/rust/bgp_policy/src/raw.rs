@@ -84,4 +84,61 @@ extern "C" {
         other_address: u32,
         beside: *mut usize,
     ) -> u8;
+
+    pub fn bgp_index_build(
+        table: *const u8,
+        table_len: usize,
+        memory: *mut u32,
+        memory_len: usize,
+        beside: *mut usize,
+    ) -> u8;
+
+    pub fn bgp_index_build6(
+        table: *const u8,
+        table_len: usize,
+        memory: *mut u32,
+        memory_len: usize,
+        beside: *mut usize,
+    ) -> u8;
+
+    pub fn bgp_index_insert(
+        record: *const u8,
+        record_len: usize,
+        memory: *mut u32,
+        memory_len: usize,
+        records: usize,
+        nodes: usize,
+        beside: *mut usize,
+    ) -> u8;
+
+    pub fn bgp_index_insert6(
+        record: *const u8,
+        record_len: usize,
+        memory: *mut u32,
+        memory_len: usize,
+        records: usize,
+        nodes: usize,
+        beside: *mut usize,
+    ) -> u8;
+
+    pub fn bgp_index_look_up(
+        memory: *const u32,
+        memory_len: usize,
+        prefix_length: u8,
+        prefix: u32,
+        origin: u32,
+        beside: *mut usize,
+        visited: *mut usize,
+    ) -> u8;
+
+    pub fn bgp_index_look_up6(
+        memory: *const u32,
+        memory_len: usize,
+        prefix_length: u8,
+        prefix_high: u64,
+        prefix_low: u64,
+        origin: u32,
+        beside: *mut usize,
+        visited: *mut usize,
+    ) -> u8;
 }

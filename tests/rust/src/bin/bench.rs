@@ -1,9 +1,12 @@
-//! The library beside plain Rust: one table of the time that a call of each entry point takes, and of the desk's throughput.
+//! The library beside plain Rust: one table of the time that a call of each entry point takes, and of the desk's throughput; and a
+//! second table of the library's scan of VRPs beside its look-up in their index.
 //! Before anything of a row is timed, the two results are compared; where they differ, the run ends with status 1.
 
 // In a folder, where cargo takes them for no programs.
 #[path = "bench/desk.rs"]
 mod desk;
+#[path = "bench/index.rs"]
+mod index;
 #[path = "bench/inputs.rs"]
 mod inputs;
 #[path = "bench/rows.rs"]
@@ -168,20 +171,21 @@ fn bench(effort: Effort) -> Result<(), String> {
         effort.passes * effort.rounds,
         effort.stream_rounds
     );
-    println!(
-        "{:<13} {:<22} {:<5} {:>11} {:>11} {:>7}",
-        "entry point", "size", "unit", "library", "Rust", "ratio"
-    );
-    let mut table = Table::new(effort);
+    let mut table = Table::new(effort, ["library", "Rust"]);
+    let mut scans = Table::new(effort, ["scan", "look-up"]);
     for _ in 0..effort.passes {
         // the same inputs in each pass
         let random = &mut seeded();
         blocks(&mut table, random)?;
         sessions_and_tables(&mut table, random)?;
         choosing(&mut table, random)?;
+        index::rows(&mut table, &mut scans)?;
     }
     table.print();
-    desks(effort)
+    desks(effort)?;
+    println!("The library's scan of a table beside its look-up in the index; ratio: the scan's time over the look-up's.");
+    scans.print();
+    Ok(())
 }
 
 // What the arguments ask for.

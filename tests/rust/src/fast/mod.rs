@@ -1,9 +1,10 @@
-//! Document 01, with document 02's Q-1, in the best plain Rust that we can write: the same functions as the proved library's, over the same types, to
-//! measure it against. The tests hold both to `reference`.
+//! Document 01, with document 02's, in the best plain Rust that we can write: the same functions as the proved library's,
+//! over the same types, to measure it against. The tests hold both to `reference`.
 mod block;
 mod choice;
 mod desk;
 mod hex;
+mod index;
 mod opening;
 mod origin;
 mod passing;
@@ -11,6 +12,8 @@ mod write;
 
 pub use choice::{better, choose};
 pub use desk::{desk, Desk};
+pub use index::{index_build, index_build6, index_insert, index_insert6};
+pub use index::{index_look_up, index_look_up6};
 pub use opening::open;
 pub use origin::{origin_state, origin_state6, received_tag};
 pub use passing::{receive, send};

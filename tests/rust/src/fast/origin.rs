@@ -17,6 +17,12 @@ pub trait Bits: Copy {
 
     /// Whether the prefix agrees with the one that starts a slice in so many leading bits, at most `WIDTH`.
     fn agrees(self, bytes: &[u8], length: u8) -> bool;
+
+    /// The first bit, 0 or 1.
+    fn first(self) -> usize;
+
+    /// The bits after the first.
+    fn rest(self) -> Self;
 }
 
 impl Bits for u32 {
@@ -29,6 +35,14 @@ impl Bits for u32 {
     fn agrees(self, bytes: &[u8], length: u8) -> bool {
         // In 64 bits, where a shift by 32 is one too, and leaves none to differ.
         u64::from(number(bytes) ^ self) >> (32 - length) == 0
+    }
+
+    fn first(self) -> usize {
+        (self >> 31) as usize
+    }
+
+    fn rest(self) -> Self {
+        self << 1
     }
 }
 
@@ -46,6 +60,14 @@ impl Bits for u128 {
             return length < 64 && high >> (63 - length) >> 1 == 0;
         }
         length <= 64 || (half(&bytes[8..]) ^ self as u64) >> (128 - length) == 0
+    }
+
+    fn first(self) -> usize {
+        (self >> 127) as usize
+    }
+
+    fn rest(self) -> Self {
+        self << 1
     }
 }
 

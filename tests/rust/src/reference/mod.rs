@@ -1,9 +1,10 @@
-//! Document 01 in plain Rust, with document 02's Q-1, written from their text alone and slow on purpose: whole lists that are read,
-//! altered and written anew. The tests compare the proved library with it. A file follows a section of document 01; sentences in
-//! quotes are its, after "Q-1:" those of that request.
+//! Document 01 in plain Rust, with document 02's, written from their text alone and slow on purpose: whole lists that are
+//! read, altered and written anew. The tests compare the proved library with it. A file follows a section of document 01 or a request;
+//! sentences in quotes are its, after "Q-1:" or "Q-7:" those of that request.
 mod block;
 mod choice;
 mod desk;
+mod index;
 mod input;
 mod opening;
 mod origin;
@@ -12,6 +13,7 @@ mod passing;
 pub use block::{read, Attribute};
 pub use choice::{better, choose};
 pub use desk::desk;
+pub use index::{told, Index};
 pub use opening::open;
 pub use origin::{origin_state, origin_state6, received_tag};
 pub use passing::{receive, send};

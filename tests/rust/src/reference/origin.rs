@@ -19,8 +19,8 @@ pub struct Route {
 /// A VRP; `width` is its family's.
 pub struct Vrp {
     pub width: u8,
-    prefix: u128,
-    length: u8,
+    pub prefix: u128,
+    pub length: u8,
     maximum: u8,
     asn: u32,
 }

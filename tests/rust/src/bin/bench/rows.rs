@@ -1,4 +1,4 @@
-//! The table: of each row the library's call and Rust's compared, timed in turn, and printed.
+//! The tables: of each row the calls of two sides, such as the library and Rust, compared, timed in turn, and printed.
 use crate::Effort;
 use bgp_policy::BLOCK_MAX;
 use policy_tests::{patterns, shown};
@@ -23,23 +23,24 @@ impl Answer for (u8, usize, usize) {
     }
 }
 
-/// The rows of the table, in the order in which they were first measured.
+/// The rows of a table, in the order in which they were first measured, and the names of its two sides.
 pub struct Table {
     effort: Effort,
+    sides: [&'static str; 2],
     rows: Vec<Row>,
 }
 
-// The best time of a call of each side, in ns: the library's and Rust's.
+// The best time of a call of each side, in ns.
 struct Row {
     name: String,
     size: String,
     best: [f64; 2],
 }
 
-/// One line of the table: the two sides' numbers, and the library's time over Rust's.
+/// One line of a table: the two sides' numbers, and the first's time over the second's.
 pub fn print(name: &str, size: &str, unit: &str, sides: [f64; 2], ratio: f64) {
-    let [library, rust] = sides;
-    println!("{name:<13} {size:<22} {unit:<5} {library:>11.1} {rust:>11.1} {ratio:>7.2}");
+    let [first, second] = sides;
+    println!("{name:<14} {size:<22} {unit:<5} {first:>11.1} {second:>11.1} {ratio:>7.2}");
 }
 
 // The time of some calls.
@@ -62,19 +63,23 @@ fn filling<T>(turn: Duration, out: &mut [u8], run: &impl Fn(&mut [u8]) -> T) -> 
 
 // Both sides called once: answer 0, and the same numbers and buffer, to its end.
 fn same<T: Answer>(
-    library: &impl Fn(&mut [u8]) -> T,
-    rust: &impl Fn(&mut [u8]) -> T,
+    sides: [&str; 2],
+    one: &impl Fn(&mut [u8]) -> T,
+    two: &impl Fn(&mut [u8]) -> T,
 ) -> Result<(), String> {
+    let [one_name, two_name] = sides;
     let [mut first, _] = patterns(BLOCK_MAX);
     let mut second = first.clone();
-    let (answer, other) = (library(&mut first), rust(&mut second));
+    let (answer, other) = (one(&mut first), two(&mut second));
     if answer != other {
-        return Err(format!("the library answers {answer:?} and Rust {other:?}"));
+        return Err(format!(
+            "{one_name} answers {answer:?}, {two_name} {other:?}"
+        ));
     }
     if let Some(at) = (0..BLOCK_MAX).find(|&at| first[at] != second[at]) {
         let (first, second) = (shown(&first[at..]), shown(&second[at..]));
         return Err(format!(
-            "from byte {at} the library stores {first} and Rust {second}"
+            "from byte {at} {one_name} stores {first}, {two_name} {second}"
         ));
     }
     if answer.number() != 0 {
@@ -84,12 +89,18 @@ fn same<T: Answer>(
 }
 
 impl Table {
-    pub fn new(effort: Effort) -> Self {
-        let rows = Vec::new();
-        Table { effort, rows }
+    pub fn new(effort: Effort, sides: [&'static str; 2]) -> Self {
+        Table {
+            effort,
+            sides,
+            rows: Vec::new(),
+        }
     }
 
     pub fn print(&self) {
+        let (name, size, unit, ratio) = ("entry point", "size", "unit", "ratio");
+        let [first, second] = self.sides;
+        println!("{name:<14} {size:<22} {unit:<5} {first:>11} {second:>11} {ratio:>7}");
         for Row { name, size, best } in &self.rows {
             print(name, size, "ns", *best, best[0] / best[1]);
         }
@@ -115,21 +126,18 @@ impl Table {
         &mut self,
         name: &str,
         size: &str,
-        library: impl Fn(&mut [u8]) -> T,
-        rust: impl Fn(&mut [u8]) -> T,
+        one: impl Fn(&mut [u8]) -> T,
+        two: impl Fn(&mut [u8]) -> T,
     ) -> Result<(), String> {
-        same(&library, &rust).map_err(|how| format!("{name}, {size}: {how}"))?;
+        same(self.sides, &one, &two).map_err(|how| format!("{name}, {size}: {how}"))?;
         let Effort { rounds, turn, .. } = self.effort;
         let best = self.best(name, size);
         let mut out = vec![0; BLOCK_MAX];
-        let calls = [
-            filling(turn, &mut out, &library),
-            filling(turn, &mut out, &rust),
-        ];
+        let calls = [filling(turn, &mut out, &one), filling(turn, &mut out, &two)];
         for _ in 0..rounds {
             let times = [
-                timed(calls[0], &mut out, &library),
-                timed(calls[1], &mut out, &rust),
+                timed(calls[0], &mut out, &one),
+                timed(calls[1], &mut out, &two),
             ];
             for side in 0..2 {
                 let each = times[side].as_nanos() as f64 / f64::from(calls[side]);
