@@ -3,6 +3,7 @@
 use mathlib.Core.Path.{_≡_, refl, sym, ap, _∙_, subst}
 use mathlib.Core.Bool.{Bool, true, false}
 use mathlib.Core.List.{List, _++_}
+use mathlib.Core.Option.{Option}
 use Prim.Native.Nat.{ℕ, zero, suc}
 use lib.Dec.{leb}
 use lib.ListN.{length}
@@ -10,7 +11,7 @@ use borrow.Author.Tests.{leb-true, leb-false}
 use Rattle.rules.specs.Answers.{Answer, done, refused, Check, answer, order, sized, stored}
 use Rattle.rules.specs.Settings.{blockMax}
 use Rattle.rules.specs.Attributes.{Attribute}
-use Rattle.rules.specs.Changes.{blockChecks, fitted, Leaves}
+use Rattle.rules.specs.Changes.{rewritten, blockChecks, fitted, Leaves}
 use Rattle.rules.specs.declared.Refusal.{Refusal}
 use Rattle.rules.specs.declared.Refusal.the-variants.{Malformed, BadSetting, BadLength}
 use Rattle.rules.proofs.Answers.{answer-decided, answer-passed, answer-says, answer-done}
@@ -22,6 +23,11 @@ use Rattle.attributes.specs.declared.layout.Reading.the-variants.{Fault}
 use Rattle.attributes.proofs.Found.{fault-read}
 use Rattle.rewriting.specs.Plan.{ReadBlock}
 use Rattle.verdicts.specs.Judge.{ruled, judged}
+
+-- By the same flags, tag and OTC the same is made of a block.
+pub rewritten-same : (dropped : List ℕ → Bool) (l : List Attribute) {f g : ℕ} {tag state otc asn : Option ℕ} → f ≡ g → tag ≡ state → otc ≡ asn
+    → rewritten dropped f tag otc l ≡ rewritten dropped g state asn l
+rewritten-same dropped l p q r = rw (p, q, r) refl
 
 leaves-refused : {decided : Answer (List Attribute)} (before : List ℕ) {r : Refusal} → decided ≡ refused r → Leaves decided before (refused r) before
 unfolding fitted sized stored

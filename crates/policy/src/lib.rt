@@ -8,7 +8,6 @@ use attributes::read;
 use attributes::value;
 use communities::tags::ALL_TAGS;
 use placed::Placed;
-use rewriting::plan::OPTIONAL_TRANSITIVE;
 use rewriting::plan::Output;
 use rewriting::store;
 use rules::Advertised;
@@ -18,7 +17,9 @@ use rules::Session;
 use settings::ranges::block_size_ok;
 use settings::ranges::sending_ok;
 use settings::ranges::session_ok;
+use settings::roles::OWN_ROUTE;
 use settings::states::UNAVAILABLE;
+use verdicts::new_flags;
 use verdicts::receipt_rule;
 use verdicts::received_otc;
 use verdicts::sending_rule;
@@ -52,15 +53,8 @@ pub fn receive_placed(session: Session, block: &[u8], out: &mut [u8]) -> Placed
                 return Placed::Refused(Refusal::Ineligible(rule));
             }
             let asn = received_otc(session);
-            let output = store(
-                block,
-                layout,
-                ALL_TAGS,
-                OPTIONAL_TRANSITIVE,
-                UNAVAILABLE,
-                asn,
-                out,
-            );
+            let flags = new_flags(false);
+            let output = store(block, layout, ALL_TAGS, flags, UNAVAILABLE, asn, out);
             match output {
                 Output::Full => Placed::Refused(Refusal::NoRoom),
                 Output::Bytes(length) => Placed::Block {
@@ -106,7 +100,8 @@ pub fn send(session: Session, source: u8, state: u8, block: &[u8], out: &mut [u8
             }
             let tag = sent_tag(session, source, state);
             let asn = sent_otc(session, source, state);
-            let output = store(block, layout, ALL_TAGS, OPTIONAL_TRANSITIVE, tag, asn, out);
+            let flags = new_flags(source == OWN_ROUTE);
+            let output = store(block, layout, ALL_TAGS, flags, tag, asn, out);
             match output {
                 Output::Full => Advertised::Refused(Refusal::NoRoom),
                 Output::Bytes(length) => Advertised::Block(length),

@@ -1,8 +1,5 @@
 // The plan for a block, and what storing it answers.
 
-// The flags of a new attribute (RFC 4271 section 4.3): optional, transitive.
-pub const OPTIONAL_TRANSITIVE: u8 = 0xC0;
-
 // What is planned for a block before any byte of it is stored: where its communities attribute begins and what follows it
 // begins (the block's length where there is none), how many bytes of communities are left, where a new tag and a new OTC would
 // go, how many bytes go out, the number of the test that picks the communities to drop, the flags of new attributes, the state

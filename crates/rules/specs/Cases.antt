@@ -11,6 +11,8 @@ use lib.ListN.{length, replicate}
 use Rattle.rules.specs.Bytes.{bigEndian, sameBytes}
 use Rattle.rules.specs.Answers.{Answer, done, refused, number, beside, stored}
 use Rattle.rules.specs.Roles.{counterpart, openSession}
+use Rattle.rules.specs.Attributes.{communitiesType}
+use Rattle.rules.specs.Changes.{newAttribute, withTag}
 use Rattle.rules.specs.Receipt.{receive}
 use Rattle.rules.specs.Sending.{ownRoute, send}
 use Rattle.rules.specs.Origin.{prefixIn, vrps, stateOver, originState, receivedTag}
@@ -73,6 +75,8 @@ pub data Case : Type 0 where
   dispatching : Session → ℕ → ℕ → String → List ℕ → List ℕ → Case
   -- the buffer after the sending of an own route, state unavailable
   leaving : Session → String → List ℕ → List ℕ → Case
+  -- the flags of an attribute of so many communities, and its flags once a tag is last in it
+  tagging : ℕ → ℕ → ℕ → Case
   -- origin state: width, prefix length, prefix, table, block
   validating : ℕ → ℕ → String → String → String → List ℕ → Case
   -- the state over the parts of a table, by theirs
@@ -121,6 +125,7 @@ holds (receiving s b buffer wanted) = sameBytes (numbers (λ r. r) (receive s (h
 holds (dispatching s source state b buffer wanted) =
     sameBytes (numbers (λ r. r) (send s source state (hex b) (length buffer))) wanted
 holds (leaving s b buffer wanted) = sameBytes (stored (send s ownRoute 3 (hex b) (length buffer)) buffer) wanted
+holds (tagging flags n wanted) = eqb (withTag 0 (newAttribute flags communitiesType (replicate (8 * n) 1)) .flags) wanted
 holds (validating w len prefix table b wanted) =
     sameBytes (numbers (λ r. r ∷ []) (originState w len (bigEndian (hex prefix)) 1 (hex table) (hex b))) wanted
 holds (overParts states wanted) = eqb (stateOver states) wanted

@@ -1,5 +1,5 @@
-// The rules of receipt and sending (01, "Receipt" and "Sending"; RFC 9234 section 5). All of it is internal: receipt and sending
-// call it.
+// The rules of receipt and sending, and what they add (01, "Receipt" and "Sending"; 02, Q-2; RFC 9234 section 5). All of it is
+// internal: receipt and sending call it.
 use rules::Session;
 use settings::flags::both;
 use settings::flags::one_of_three;
@@ -24,10 +24,16 @@ ghost use lib.Dec.{eqb};
 ghost use Rattle.rules.specs.Bytes.{oneOf};
 ghost use Rattle.rules.specs.Settings.{sessionOk, modeMeant, dropInvalid, invalid};
 ghost use Rattle.rules.specs.Roles.{provider, rs, rsClient, customer, peer};
+ghost use Rattle.rules.specs.Changes.{newFlags};
 ghost use Rattle.rules.specs.Receipt.{otcReceived};
 ghost use Rattle.rules.specs.Sending.{ownRoute, tagSent, otcSent};
 ghost use Rattle.settings.specs.Told.{toldTag, toldOtc};
 ghost use Rattle.verdicts.specs.Judge.{ReceiptRule, SendingRule};
+
+// Flags of an attribute (RFC 4271 section 4.3): optional and transitive; partial too.
+const OPTIONAL_TRANSITIVE: u8 = 0xC0;
+
+const OPTIONAL_TRANSITIVE_PARTIAL: u8 = 0xE0;
 
 // A role that routes go up or across to: Provider, Peer or RS.
 fn is_up(role: u8) -> bool
@@ -108,6 +114,16 @@ pub fn sending_rule(session: Session, source: u8, state: u8, has: bool) -> u8
         return 3;
     }
     0
+}
+
+// The flags of new attributes, by whether the route is the sender's own (02, Q-2; RFC 4271 section 5).
+pub fn new_flags(own: bool) -> u8
+    ensures { λ r. ⌜ r ≡ newFlags own ⌝ }
+{
+    if own {
+        return OPTIONAL_TRANSITIVE;
+    }
+    OPTIONAL_TRANSITIVE_PARTIAL
 }
 
 // The state that sending tags a route with: 3 for no tag (01, Sending).

@@ -1,8 +1,7 @@
 -- `receive_placed` meets its contract: each way out by its law, in the order of answers.
-use mathlib.Core.Path.{_≡_, sym, ap, _∙_}
-use mathlib.Core.Bool.{Bool, true}
+use mathlib.Core.Path.{_≡_, refl, sym, ap, _∙_}
+use mathlib.Core.Bool.{Bool, true, false}
 use mathlib.Core.List.{List}
-use mathlib.Core.Option.{Option, none}
 use Prim.Native.Nat.{ℕ}
 use denote.Ref.{now}
 use lib.Dec.{leb}
@@ -11,7 +10,7 @@ use borrow.Author.Tests.{not-true, not-false}
 use Rattle.rules.specs.Answers.{Check}
 use Rattle.rules.specs.Settings.{blockMax, sessionOk}
 use Rattle.rules.specs.Attributes.{Attribute, attributes}
-use Rattle.rules.specs.Changes.{isTag, newFlags, rewritten, Leaves}
+use Rattle.rules.specs.Changes.{isTag, newFlags, Leaves}
 use Rattle.rules.specs.Receipt.{receiptRules, receiptResult, receiptVerdict}
 use Rattle.rules.specs.declared.Refusal.the-variants.{Ineligible}
 use Rattle.rules.proofs.Checked.{Late}
@@ -24,7 +23,7 @@ use Rattle.verdicts.specs.Judge.{ruled, judged}
 use Rattle.policy.specs.Placed.{toldPlaced}
 use Rattle.verdicts.proofs.Judging.{receipt-late}
 use Rattle.policy.proofs.Readings.{read-clean, has-found, otc-found}
-use Rattle.policy.proofs.Leaving.{leaves-setting, leaves-length, leaves-fault, leaves-rule, leaves-output}
+use Rattle.policy.proofs.Leaving.{rewritten-same, leaves-setting, leaves-length, leaves-fault, leaves-rule, leaves-output}
 use borrow.Author.Needs.{needs}
 use Rattle.policy.proofs.receive_placed.Statement.{statement}
 use Rattle.policy.proofs.receive_placed.Tie as tie
@@ -65,17 +64,26 @@ found c =
     let r = c .before .before .before .before in
     c .receipt-rule .ensures (attributes (now (start r .args .block))) (has-found (clean r)) (otc-found (clean r) (c .before .before .value .ensures) (c .before .otc-as .ensures))
 
+-- Where the block was found clean, seen from where no rule applies.
+abbrev passed : tie.Else3 → tie.After-reading2
+passed c = c .before .before .before .before .before
+
+-- No route received is an own one.
+flags-found : (c : tie.After-new-flags) → c .new-flags .result ≡ newFlags false
+flags-found c = c .new-flags .ensures
+
 -- What the block stored, or that there was no room for it, says of receipt.
-output : (c : tie.After-store) → let s = start (c .before .before .before .before .before .before .before .before) in
+output : (c : tie.After-store) → let s = start (passed (c .before .before .before .before)) in
     Leaves (receiptVerdict (s .args .session) (block s)) (now (s .args .out)) (toldOutput (c .store .result)) (c .store .last .1 .1 .1 .1 .1 .1 .0)
 unfolding receiptVerdict receiptResult toldTag dropTest
 output c =
-    let o = c .before .before in
+    let f = c .before .before in
+    let o = f .before in
     let q = o .before .before in
-    let r = q .before .before .before .before in
+    let r = passed (o .before) in
     let s = start r in
     leaves-output (ok s) (block s) (rules s) (late s) (result s) (now (s .args .out)) (valid (r .before .before .before .before .before)) (clean r) (λ k. Ineligible k) (q .receipt-rule .result) (found q) (o .before .if3 .left)
-    (ap (λ (otc : Option ℕ). rewritten isTag newFlags none otc (attributes (block s))) (o .received-otc .ensures)) (c .store .ensures)
+    (rewritten-same isTag (attributes (block s)) (flags-found f) refl (o .received-otc .ensures)) (c .store .ensures)
 
 returns : tie.Need-returns
 unfolding toldPlaced receiptVerdict
@@ -107,10 +115,10 @@ returns-4 c =
     record { got = leaves-rule (ok s) (block s) (rules s) (late s) (result s) (now (s .args .out)) (valid (r .before .before .before .before .before)) (clean r) (λ k. Ineligible k) (q .receipt-rule .result) (found q) (c .if3 .taken); path = tt }
 
 received-otc-requires : tie.Need-received-otc-requires
-received-otc-requires c κs = valid (c .before .before .before .before .before .before .before .before .before .before)
+received-otc-requires c κs = valid (passed c .before .before .before .before .before)
 
 store-requires : tie.Need-store-requires
-store-requires c κs = clean (c .before .before .before .before .before .before .before)
+store-requires c κs = clean (passed (c .before .before .before))
 
 returns-5 : tie.Need-returns-5
 unfolding toldPlaced toldOutput
@@ -120,12 +128,12 @@ returns-6 : tie.Need-returns-6
 unfolding toldPlaced toldOutput
 returns-6 c =
     let m = c .before .before .before .before .before in
-    let w = clean (m .before .before .before .before .before .before .before .before) in
+    let w = clean (passed (m .before .before .before .before)) in
     record { got = rw (c .before .output .given .1) at (output m); path = (w .clean, ap (λ (l : Layout). l .«as_path») (w .is)) }
 
 pub receive-placed-spec : {M : Type 1} → statement M
 receive-placed-spec =
     tie.close
     (tie.spec (λ c κs. search needs) returns (λ c κs. search needs) returns-2 (λ c κs. search needs) (λ c. search needs) returns-3
-    (λ c. search needs) (λ c κs. search needs) (λ c κs. search needs) (λ c κs. search needs) returns-4 received-otc-requires store-requires
+    (λ c. search needs) (λ c κs. search needs) (λ c κs. search needs) (λ c κs. search needs) returns-4 received-otc-requires (λ c κs. search needs) store-requires
     (λ c. search needs) (λ c. search needs) (λ c. search needs) returns-5 (λ c. search needs) returns-6)

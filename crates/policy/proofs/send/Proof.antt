@@ -1,18 +1,17 @@
 -- `send` meets its contract: each way out by its law, in the order of answers.
-use mathlib.Core.Path.{_≡_, sym, ap₂, _∙_}
+use mathlib.Core.Path.{_≡_, sym, _∙_}
 use mathlib.Core.Bool.{Bool, true, _&&_}
 use mathlib.Core.List.{List}
-use mathlib.Core.Option.{Option}
 use Prim.Native.Nat.{ℕ}
 use denote.Ref.{now}
-use lib.Dec.{leb}
+use lib.Dec.{leb, eqb}
 use lib.ListN.{length}
 use borrow.Author.Tests.{not-true, not-false}
 use Rattle.rules.specs.Answers.{Check, toldAdvertised}
 use Rattle.rules.specs.Settings.{blockMax, sessionOk, sourceOk, stateOk}
 use Rattle.rules.specs.Attributes.{Attribute, attributes}
-use Rattle.rules.specs.Changes.{isTag, newFlags, rewritten, Leaves}
-use Rattle.rules.specs.Sending.{sendingRules, sendingResult, sendingVerdict}
+use Rattle.rules.specs.Changes.{isTag, newFlags, Leaves}
+use Rattle.rules.specs.Sending.{ownRoute, sendingRules, sendingResult, sendingVerdict}
 use Rattle.rules.specs.declared.Refusal.the-variants.{Withheld}
 use Rattle.rules.proofs.Lists.{and-left}
 use Rattle.rules.proofs.Checked.{Late}
@@ -22,7 +21,7 @@ use Rattle.rewriting.specs.Stores.{toldOutput}
 use Rattle.verdicts.specs.Judge.{ruled, judged}
 use Rattle.verdicts.proofs.Judging.{sending-late}
 use Rattle.policy.proofs.Readings.{read-clean, has-found}
-use Rattle.policy.proofs.Leaving.{leaves-setting, leaves-length, leaves-fault, leaves-rule, leaves-output}
+use Rattle.policy.proofs.Leaving.{rewritten-same, leaves-setting, leaves-length, leaves-fault, leaves-rule, leaves-output}
 use borrow.Author.Needs.{needs}
 use Rattle.policy.proofs.send.Statement.{statement}
 use Rattle.policy.proofs.send.Tie as tie
@@ -61,18 +60,26 @@ clean c = read-clean _ (small (c .before .before .before)) (c .before .before .r
 found : (c : tie.After-sending-rule) → judged (rules (start (c .before .before))) ≡ ruled (λ k. Withheld k) (c .sending-rule .result)
 found c = let r = c .before .before in c .sending-rule .ensures (attributes (block (start r))) (has-found (clean r))
 
+-- Where the block was found clean, seen from where no rule applies.
+abbrev passed : tie.Else3 → tie.After-reading2
+passed c = c .before .before .before
+
+-- A route is an own one by its source.
+flags-found : (c : tie.After-new-flags) → c .new-flags .result ≡ newFlags (eqb (start (passed (c .before .before .before)) .args .source) ownRoute)
+flags-found c = c .new-flags .ensures
+
 -- What the block stored, or that there was no room for it, says of sending.
-output : (c : tie.After-store) → let s = start (c .before .before .before .before .before .before .before) in
+output : (c : tie.After-store) → let s = start (passed (c .before .before .before .before .before)) in
     Leaves (sendingVerdict (s .args .session) (s .args .source) (s .args .state) (block s)) (now (s .args .out)) (toldOutput (c .store .result)) (c .store .last .1 .1 .1 .1 .1 .1 .0)
 unfolding sendingVerdict sendingResult dropTest
 output c =
-    let o = c .before .before in
+    let f = c .before .before in
+    let o = f .before in
     let q = o .before .before .before in
-    let r = q .before .before in
+    let r = passed (o .before .before) in
     let s = start r in
     leaves-output (ok s) (block s) (rules s) (late s) (result s) (now (s .args .out)) (valid (r .before .before .before .before .before)) (clean r) (λ k. Withheld k) (q .sending-rule .result) (found q) (o .before .before .if3 .left)
-    (ap₂ (λ (tag otc : Option ℕ). rewritten isTag newFlags tag otc (attributes (block s))) (o .before .sent-tag .ensures) (o .sent-otc .ensures))
-    (c .store .ensures)
+    (rewritten-same isTag (attributes (block s)) (flags-found f) (o .before .sent-tag .ensures) (o .sent-otc .ensures)) (c .store .ensures)
 
 returns : tie.Need-returns
 unfolding toldAdvertised sendingVerdict
@@ -105,12 +112,12 @@ returns-4 c =
 
 sent-otc-requires : tie.Need-sent-otc-requires
 sent-otc-requires c κs =
-    let e = c .before .before .before .before .before .before .before .before .before in
+    let e = passed (c .before) .before .before .before .before .before in
     let a = e .before .before .before .before .args in
     and-left (sessionOk (a .session)) (sourceOk (a .source)) (and-left (sessionOk (a .session) && sourceOk (a .source)) (stateOk (a .state)) (valid e))
 
 store-requires : tie.Need-store-requires
-store-requires c κs = clean (c .before .before .before .before .before .before)
+store-requires c κs = clean (passed (c .before .before .before .before))
 
 returns-5 : tie.Need-returns-5
 unfolding toldAdvertised toldOutput
@@ -124,5 +131,5 @@ pub send-spec : {M : Type 1} → statement M
 send-spec =
     tie.close
     (tie.spec (λ c κs. search needs) returns (λ c κs. search needs) returns-2 (λ c κs. search needs) (λ c. search needs) returns-3
-    (λ c. search needs) (λ c κs. search needs) returns-4 (λ c κs. search needs) sent-otc-requires store-requires (λ c. search needs)
+    (λ c. search needs) (λ c κs. search needs) returns-4 (λ c κs. search needs) sent-otc-requires (λ c κs. search needs) store-requires (λ c. search needs)
     (λ c. search needs) (λ c. search needs) returns-5 (λ c. search needs) returns-6)
