@@ -11,7 +11,7 @@
 #include <stdint.h>
 
 /* The version of this interface; the pkg-config file has it too. */
-#define BGP_POLICY_VERSION "0.3.0"
+#define BGP_POLICY_VERSION "0.4.0"
 
 #ifdef __cplusplus
 extern "C" {
@@ -124,14 +124,18 @@ uint8_t bgp_open(uint8_t local_role, uint8_t strict,
                  const uint8_t *parameters, size_t parameters_len,
                  size_t *beside);
 
-/* Receipt: what this end keeps of a block that came from the other end. */
+/*
+ * Receipt: what this end keeps of a block that came from the other end. A new OTC begins E0, with the Partial bit (RFC 4271
+ * section 5).
+ */
 uint8_t bgp_receive(uint32_t local_as, uint32_t remote_as, uint8_t local_role, uint8_t mode,
                     const uint8_t *block, size_t block_len,
                     uint8_t *out, size_t out_len,
                     size_t *beside);
 
 /*
- * Sending: what goes out to the other end.
+ * Sending: what goes out to the other end. A new OTC, and a new attribute for the tag, begin C0 on an own route, else E0, with
+ * the Partial bit (RFC 4271 section 5).
  *
  * source   255 for an own route, else the role (0 to 4) of the neighbour that the route was learned from
  * state    the origin validation state: 0 valid, 1 not found, 2 invalid, 3 unavailable

@@ -13,6 +13,7 @@
 #define BY_64500 "4001010040020602010000FBF4"  /* with the path 64500 */
 #define FINAL_SET "4001010040020601010000FBF4" /* with the set of 64500 */
 #define OTC "C02304"                           /* the header of an OTC */
+#define PARTIAL_OTC "E02304"                   /* of one that its originator did not attach */
 #define TAG "43000000000000"                   /* a tag but for its state */
 #define OTHER "0002000000000000"               /* a community that is no tag */
 #define FULL OWN "D0630FDE"                    /* with zeros after it: 4,073 bytes */
@@ -107,11 +108,12 @@ int main(void)
     opening("local role 5", 5, 1, "0203090104", 5, 0);
     opening("a parameter of type 1", 4, 1, "0103090104", 8, 0);
 
-    receipt("P2, from a Peer", 4, 1, PATH, BLOCK_MAX, 0, 20, PATH OTC "0000FBFE");
-    receipt("P2, just room", 4, 1, PATH, 20, 0, 20, PATH OTC "0000FBFE");
+    receipt("P2, from a Peer", 4, 1, PATH, BLOCK_MAX, 0, 20, PATH PARTIAL_OTC "0000FBFE");
+    receipt("P2, just room", 4, 1, PATH, 20, 0, 20, PATH PARTIAL_OTC "0000FBFE");
     receipt("P2, a byte too little", 4, 1, PATH, 19, 7, 0, "");
     receipt("P3, a Peer's OTC of another AS", 4, 1, PATH OTC "0000FBF5", BLOCK_MAX, 1, 2, "");
     receipt("an OTC from a Customer", 0, 1, PATH OTC "0000FBFE", BLOCK_MAX, 1, 1, "");
+    receipt("a Peer's OTC of its own AS", 4, 1, PATH OTC "0000FBFE", BLOCK_MAX, 0, 20, PATH OTC "0000FBFE");
     receipt("tags 0 and 7 go", 0, 1, OWN "C01010" TAG "00" TAG "07", BLOCK_MAX, 0, 7, OWN);
     block = filled(FULL, 4073);
     receipt("4,073 bytes from a Customer", 0, 1, block, BLOCK_MAX, 0, 4073, block);
@@ -125,13 +127,18 @@ int main(void)
     sending("P5, from a Provider to a Peer", 4, 1, 0, 3, OWN, BLOCK_MAX, 2, 2, "");
     sending("an OTC to a Peer", 4, 1, 255, 3, OWN OTC "00000001", BLOCK_MAX, 2, 1, "");
     sending("mode 2, invalid, to an RS-Client", 1, 2, 2, 2, OWN, BLOCK_MAX, 2, 3, "");
-    sending("mode 1, invalid, to an RS-Client", 1, 1, 2, 2, OWN, BLOCK_MAX, 0, 25, OWN "C01008" TAG "02" OTC "0000FBF4");
+    sending("mode 1, invalid, to an RS-Client", 1, 1, 2, 2, OWN, BLOCK_MAX, 0, 25, OWN "E01008" TAG "02" PARTIAL_OTC "0000FBF4");
+    sending("the same of an own route", 1, 1, 255, 2, OWN, BLOCK_MAX, 0, 25, OWN "C01008" TAG "02" OTC "0000FBF4");
+    sending("a Customer's route to a Peer", 4, 1, 3, 3, OWN, BLOCK_MAX, 0, 14, OWN PARTIAL_OTC "0000FBF4");
     block = text(OWN "C010F0", OTHER, 30, "");
     sending("30 communities and a tag", 1, 1, 2, 1, block, BLOCK_MAX, 0, 265,
-            text(OWN "C010F8", OTHER, 30, TAG "01" OTC "0000FBF4"));
+            text(OWN "C010F8", OTHER, 30, TAG "01" PARTIAL_OTC "0000FBF4"));
     block = text(OWN "C010F8", OTHER, 31, "");
     sending("31 communities and a tag", 1, 1, 2, 1, block, BLOCK_MAX, 0, 274,
-            text(OWN "D0100100", OTHER, 31, TAG "01" OTC "0000FBF4"));
+            text(OWN "D0100100", OTHER, 31, TAG "01" PARTIAL_OTC "0000FBF4"));
+    block = text(OWN "E010F8", OTHER, 31, "");
+    sending("31 in a partial attribute, own route", 1, 1, 255, 1, block, BLOCK_MAX, 0, 274,
+            text(OWN "F0100100", OTHER, 31, TAG "01" OTC "0000FBF4"));
     block = filled(FULL, 4073);
     sending("4,073 bytes to a Provider", 3, 1, 255, 3, block, BLOCK_MAX, 0, 4073, block);
     sending("4,074 bytes", 3, 1, 255, 3, filled(OVER, 4074), sizeof out, 6, 0, "");

@@ -1,4 +1,4 @@
-//! The cases that document 01 names, run at the functions with the results stored here.
+//! The cases that documents 01 and 02 name, run at the functions with the results stored here.
 use bgp_policy::{receive, send, Session, BLOCK_MAX, OWN_ROUTE};
 use policy_tests::{block_of, expected_buffer, hex, patterns, shown};
 
@@ -45,22 +45,22 @@ fn refuses(cap: usize, answer: u8, beside: usize, run: impl Fn(&mut [u8]) -> (u8
 const OWN: &str = "40010100400200";
 
 // ORIGIN, an empty AS_PATH and a short communities attribute of `count` communities, none of them a tag.
-fn with_communities(count: u8) -> Vec<u8> {
+fn with_communities(flags: u8, count: u8) -> Vec<u8> {
     let mut block = hex(OWN);
-    block.extend([0xC0, 16, count * 8]);
+    block.extend([flags, 16, count * 8]);
     for i in 0..count {
         block.extend([0x00, 0x02, 0, 0, 0, 0, 0, i]);
     }
     block
 }
 
-// What the communities of `with_communities` look like after a tag of state 1 and an OTC of AS 64500, under a header.
-fn tagged(header: &str, count: u8) -> Vec<u8> {
+// What the communities of `with_communities` look like after a tag of state 1, under a header, and after them an OTC of AS 64500.
+fn tagged(header: &str, count: u8, otc: &str) -> Vec<u8> {
     let mut block = hex(OWN);
     block.extend(hex(header));
-    block.extend(&with_communities(count)[10..]);
+    block.extend(&with_communities(0xC0, count)[10..]);
     block.extend(hex("4300000000000001"));
-    block.extend(hex("C023040000FBF4"));
+    block.extend(hex(otc));
     block
 }
 
@@ -68,7 +68,7 @@ fn tagged(header: &str, count: u8) -> Vec<u8> {
 fn p2_a_peer_route_is_marked_on_receipt() {
     stores(
         BLOCK_MAX,
-        &hex("4001010040020602010000FBFEC023040000FBFE"),
+        &hex("4001010040020602010000FBFEE023040000FBFE"),
         |out| receive(session(PEER), &hex("4001010040020602010000FBFE"), out),
     );
 }
@@ -100,16 +100,77 @@ fn p5_a_providers_route_is_withheld_from_a_peer() {
 
 #[test]
 fn thirty_communities_and_a_tag_stay_short() {
-    stores(BLOCK_MAX, &tagged("C010F8", 30), |out| {
-        send(session(RS), OWN_ROUTE, 1, &with_communities(30), out)
+    stores(BLOCK_MAX, &tagged("C010F8", 30, "C023040000FBF4"), |out| {
+        send(session(RS), OWN_ROUTE, 1, &with_communities(0xC0, 30), out)
     });
 }
 
 #[test]
 fn thirty_one_communities_and_a_tag_become_long() {
-    stores(BLOCK_MAX, &tagged("D0100100", 31), |out| {
-        send(session(RS), OWN_ROUTE, 1, &with_communities(31), out)
+    stores(
+        BLOCK_MAX,
+        &tagged("D0100100", 31, "C023040000FBF4"),
+        |out| send(session(RS), OWN_ROUTE, 1, &with_communities(0xC0, 31), out),
+    );
+}
+
+// ORIGIN, an empty AS_PATH, a new tag of state 1 and a new OTC of AS 64500, both with these flags.
+fn with_new(flags: &str) -> Vec<u8> {
+    let tag = format!("{flags}10084300000000000001");
+    hex(&format!("{OWN}{tag}{flags}23040000FBF4"))
+}
+
+// Document 02, Q-2. Only source 255 is an own route: a customer's is none.
+#[test]
+fn what_is_new_on_a_learned_route_is_partial() {
+    for source in 0..=4 {
+        stores(BLOCK_MAX, &with_new("E0"), |out| {
+            send(session(RS), source, 1, &hex(OWN), out)
+        });
+    }
+    stores(BLOCK_MAX, &with_new("C0"), |out| {
+        send(session(RS), OWN_ROUTE, 1, &hex(OWN), out)
     });
+}
+
+// A communities attribute that is emptied goes away whole, with its flags.
+#[test]
+fn a_tag_after_an_emptied_attribute_is_new() {
+    let block = |flags: &str| hex(&format!("{OWN}{flags}10084300000000000007"));
+    stores(BLOCK_MAX, &with_new("E0"), |out| {
+        send(session(RS), CUSTOMER, 1, &block("C0"), out)
+    });
+    stores(BLOCK_MAX, &with_new("C0"), |out| {
+        send(session(RS), OWN_ROUTE, 1, &block("E0"), out)
+    });
+}
+
+#[test]
+fn what_was_there_keeps_its_flags_but_for_the_long_form() {
+    for (flags, short, long) in [(0xC0, "C010F8", "D0100100"), (0xE0, "E010F8", "F0100100")] {
+        for (source, otc) in [
+            (OWN_ROUTE, "C023040000FBF4"),
+            (CUSTOMER, "E023040000FBF4"),
+            (PROVIDER, "E023040000FBF4"),
+        ] {
+            stores(BLOCK_MAX, &tagged(short, 30, otc), |out| {
+                send(session(RS), source, 1, &with_communities(flags, 30), out)
+            });
+            stores(BLOCK_MAX, &tagged(long, 31, otc), |out| {
+                send(session(RS), source, 1, &with_communities(flags, 31), out)
+            });
+        }
+    }
+    for otc in ["C023040000FBFE", "E023040000FBFE"] {
+        let block = hex(&format!("{OWN}{otc}"));
+        stores(BLOCK_MAX, &block, |out| receive(session(PEER), &block, out));
+        stores(BLOCK_MAX, &block, |out| {
+            send(session(PROVIDER), OWN_ROUTE, 3, &block, out)
+        });
+        stores(BLOCK_MAX, &block, |out| {
+            send(session(PROVIDER), PEER, 3, &block, out)
+        });
+    }
 }
 
 // From a Customer and to a Provider nothing is added.
@@ -140,7 +201,7 @@ fn a_block_of_4073_that_needs_an_otc_has_no_room() {
 fn an_otc_may_fill_the_block() {
     let block = block_of(4066);
     let marked = |otc: &str| [block.clone(), hex(otc)].concat();
-    stores(BLOCK_MAX, &marked("C023040000FBFE"), |out| {
+    stores(BLOCK_MAX, &marked("E023040000FBFE"), |out| {
         receive(session(PEER), &block, out)
     });
     stores(BLOCK_MAX, &marked("C023040000FBF4"), |out| {

@@ -1,6 +1,6 @@
 //! Receipt and sending: the verdict on a block, and the block that is kept or sent.
 use super::block::Block;
-use super::write::store;
+use super::write::{store, LEARNED, OWN};
 use super::{remote_role, Answer};
 use super::{BAD_SETTING, LEAK, MALFORMED, TOO_LONG, WITHHELD};
 use super::{CUSTOMER, PEER, PROVIDER, RS, RS_CLIENT};
@@ -42,7 +42,8 @@ pub fn receive_read(session: &Session, block: &Block, out: &mut [u8]) -> Answer 
         }
     }
     let marks = matches!(from, PROVIDER | PEER | RS) && block.otc.is_none();
-    store(block, None, marks.then_some(session.remote_as), out)
+    let otc = marks.then_some(session.remote_as);
+    store(block, LEARNED, None, otc, out)
 }
 
 /// What goes out of a block to the other end.
@@ -76,5 +77,6 @@ fn send_read(session: &Session, source: u8, state: u8, block: &Block, out: &mut 
     let tags = to == RS_CLIENT && state != UNAVAILABLE;
     let marks = matches!(to, CUSTOMER | PEER | RS_CLIENT) && block.otc.is_none();
     let otc = marks.then_some(session.local_as);
-    store(block, tags.then_some(state), otc, out)
+    let flags = if source == OWN_SOURCE { OWN } else { LEARNED };
+    store(block, flags, tags.then_some(state), otc, out)
 }

@@ -2,15 +2,25 @@
 use super::block::{is_tag, Block};
 use super::{Answer, DONE, MAX_BLOCK, NO_ROOM};
 
+/// The flags of new attributes: optional and transitive, and partial on a route that is not the sender's own.
+pub const OWN: u8 = 0xC0;
+pub const LEARNED: u8 = 0xE0;
+
 /// Stores a block without its tags, with a new tag and a new OTC if given, unless the result has no room.
-pub fn store(block: &Block, tag: Option<u8>, otc: Option<u32>, out: &mut [u8]) -> Answer {
+pub fn store(
+    block: &Block,
+    flags: u8,
+    tag: Option<u8>,
+    otc: Option<u32>,
+    out: &mut [u8],
+) -> Answer {
     let change = Change::of(block, tag);
-    let tag_attribute = tag_attribute(tag.unwrap_or(0));
+    let tag_attribute = tag_attribute(flags, tag.unwrap_or(0));
     let new_tag: &[u8] = match tag {
         Some(_) if change.kept == 0 => &tag_attribute,
         _ => &[],
     };
-    let otc_attribute = otc_attribute(otc.unwrap_or(0));
+    let otc_attribute = otc_attribute(flags, otc.unwrap_or(0));
     let new_otc: &[u8] = match otc {
         Some(_) => &otc_attribute,
         None => &[],
@@ -33,13 +43,13 @@ fn tag(state: u8) -> [u8; 8] {
     [0x43, 0, 0, 0, 0, 0, 0, state]
 }
 
-fn tag_attribute(state: u8) -> [u8; 11] {
-    [0xC0, 0x10, 0x08, 0x43, 0, 0, 0, 0, 0, 0, state]
+fn tag_attribute(flags: u8, state: u8) -> [u8; 11] {
+    [flags, 0x10, 0x08, 0x43, 0, 0, 0, 0, 0, 0, state]
 }
 
-fn otc_attribute(asn: u32) -> [u8; 7] {
+fn otc_attribute(flags: u8, asn: u32) -> [u8; 7] {
     let [a, b, c, d] = asn.to_be_bytes();
-    [0xC0, 0x23, 0x04, a, b, c, d]
+    [flags, 0x23, 0x04, a, b, c, d]
 }
 
 /// What becomes of the communities attribute.

@@ -9,6 +9,10 @@ use bgp_policy::Session;
 /// The source of an own route.
 const OWN_ROUTE: u8 = 255;
 
+/// The Partial bit (02, Q-2): "On receipt, and on sending with a source other than 255, a new OTC and a new communities attribute
+/// begin E0; an own route keeps C0."
+const PARTIAL: u8 = 0x20;
+
 /// What receipt answers, and the number beside it; on answer 0 the block is in `out`, and its length beside.
 pub fn receive(session: Session, block: &[u8], out: &mut [u8]) -> (u8, usize) {
     store(received(session, block, out.len()), out)
@@ -34,7 +38,7 @@ pub fn received(session: Session, block: &[u8], room: usize) -> Result<Vec<u8>, 
     }
     drop_tags(&mut attributes);
     if otc.is_none() && [PROVIDER, PEER, RS].contains(&from) {
-        add_otc(&mut attributes, session.remote_as);
+        add_otc(&mut attributes, PARTIAL, session.remote_as);
     }
     fitting(encode(&attributes), room)
 }
@@ -65,11 +69,12 @@ pub fn sent(
         return Err((WITHHELD, 3));
     }
     drop_tags(&mut attributes);
+    let partial = if source == OWN_ROUTE { 0 } else { PARTIAL };
     if to == RS_CLIENT && state != UNAVAILABLE {
-        add_tag(&mut attributes, state);
+        add_tag(&mut attributes, partial, state);
     }
     if otc.is_none() && [CUSTOMER, PEER, RS_CLIENT].contains(&to) {
-        add_otc(&mut attributes, session.local_as);
+        add_otc(&mut attributes, partial, session.local_as);
     }
     fitting(encode(&attributes), room)
 }
@@ -88,7 +93,7 @@ fn drop_tags(attributes: &mut Vec<Attribute>) {
 
 /// "Tag: 43 00, five zeros, state. It goes last in the communities left; if there are none, as a new C0 10 08 attribute". "Its
 /// length form is kept, save that a short one whose new length passes 255 becomes long."
-fn add_tag(attributes: &mut Vec<Attribute>, state: u8) {
+fn add_tag(attributes: &mut Vec<Attribute>, partial: u8, state: u8) {
     let tag = [0x43, 0x00, 0, 0, 0, 0, 0, state];
     let mut all = attributes.iter_mut();
     match all.find(|attribute| attribute.kind == COMMUNITIES) {
@@ -99,20 +104,20 @@ fn add_tag(attributes: &mut Vec<Attribute>, state: u8) {
                 communities.long = true;
             }
         }
-        None => add_attribute(attributes, COMMUNITIES, &tag),
+        None => add_attribute(attributes, partial, COMMUNITIES, &tag),
     }
 }
 
 /// "New OTC: C0 23 04 and four bytes".
-fn add_otc(attributes: &mut Vec<Attribute>, asn: u32) {
-    add_attribute(attributes, OTC, &asn.to_be_bytes());
+fn add_otc(attributes: &mut Vec<Attribute>, partial: u8, asn: u32) {
+    add_attribute(attributes, partial, OTC, &asn.to_be_bytes());
 }
 
-/// A new C0 attribute "before the first attribute of type above" its own, "else last".
-fn add_attribute(attributes: &mut Vec<Attribute>, kind: u8, value: &[u8]) {
+/// A new attribute, C0 and the Partial bit or not, "before the first attribute of type above" its own, "else last".
+fn add_attribute(attributes: &mut Vec<Attribute>, partial: u8, kind: u8, value: &[u8]) {
     let above = attributes.iter().position(|other| other.kind > kind);
     let new = Attribute {
-        flags: 0xC0,
+        flags: 0xC0 | partial,
         kind,
         long: false,
         value: value.to_vec(),
