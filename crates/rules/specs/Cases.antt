@@ -10,6 +10,7 @@ use lib.Dec.{eqb}
 use lib.ListN.{length, replicate}
 use Rattle.rules.specs.Bytes.{bigEndian, sameBytes}
 use Rattle.rules.specs.Answers.{Answer, done, refused, number, beside, stored}
+use Rattle.rules.specs.Settings.{simpleTagging, invalid}
 use Rattle.rules.specs.Roles.{counterpart, openSession}
 use Rattle.rules.specs.Attributes.{communitiesType}
 use Rattle.rules.specs.Changes.{newAttribute, withTag}
@@ -95,20 +96,20 @@ pub data Case : Type 0 where
   -- choosing: mode, client, buffer
   choosing : ℕ → ℕ → String → List Offer → List ℕ → Case
   comparing : Candidate → Candidate → List ℕ → Case
-  -- a chain, by the roles of its senders, that carries an own route: run, and foretold by the order of hops
+  -- a chain in simple tagging, by the roles of its senders, that carries an own route: run, and foretold by the order of hops
   carrying : List ℕ → End → Case
 
--- The hops of a chain over the ASes n, n + 1 and so on, by the roles of the senders.
-unfoldable pub hops : ℕ → List ℕ → List Hop
-hops n [] = []
-hops n (role ∷ roles) =
+-- The hops of a chain of sessions in some mode, over the ASes n, n + 1 and so on, by the roles of the senders, with an invalid route.
+unfoldable pub hops : ℕ → ℕ → List ℕ → List Hop
+hops mode n [] = []
+hops mode n (role ∷ roles) =
     record {
-      sender = record { «local_as» = n; «remote_as» = n + 1; «local_role» = role; mode = 0 };
-      receiver = record { «local_as» = n + 1; «remote_as» = n; «local_role» = counterpart role; mode = 1 };
-      state = 2;
+      sender = record { «local_as» = n; «remote_as» = n + 1; «local_role» = role; mode = mode };
+      receiver = record { «local_as» = n + 1; «remote_as» = n; «local_role» = counterpart role; mode = mode };
+      state = invalid;
       senderBuffer = replicate 4073 7;
       receiverBuffer = replicate 4073 9;
-    } ∷ hops (n + 1) roles
+    } ∷ hops mode (n + 1) roles
 
 -- An own route: ORIGIN and an empty AS_PATH.
 unfoldable pub shortest : List ℕ
@@ -143,5 +144,5 @@ holds (choosing mode client buffer offers wanted) =
     sameBytes (numbers (λ (c : Choice). c .index ∷ c .left ∷ []) (choose mode client (hex buffer) offers)) wanted
 holds (comparing a b wanted) = sameBytes (numbers (λ r. r ∷ []) (better a b) ++ winnersBlock a b (better a b)) wanted
 holds (carrying roles end) =
-    sameBytes (endNumbers (run (hops 1 roles) shortest) ++ endNumbers (foretold (orderOf (hops 1 roles)) (arrival end)))
+    sameBytes (endNumbers (run (hops simpleTagging 1 roles) shortest) ++ endNumbers (foretold (orderOf (hops simpleTagging 1 roles)) (arrival end)))
     (endNumbers end ++ endNumbers end)
