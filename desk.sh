@@ -27,7 +27,7 @@ Frames (bytes in brackets)
 
   role    0 Provider, 1 RS, 2 RS-Client, 3 Customer, 4 Peer
   strict  0 or 1: whether the neighbour must send its role
-  mode    0 default (as 1), 1 tag, 2 tag and withhold invalid routes, 3 prioritise (as 1)
+  mode    0 default (as 2), 1 tag, 2 tag and withhold invalid routes, 3 prioritise (as 1)
   source  FF own route, else the role of the neighbour it was learned from
   state   0 valid, 1 not found, 2 invalid, 3 unavailable
 

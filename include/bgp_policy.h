@@ -11,7 +11,7 @@
 #include <stdint.h>
 
 /* The version of this interface; the pkg-config file has it too. */
-#define BGP_POLICY_VERSION "0.4.0"
+#define BGP_POLICY_VERSION "0.5.0"
 
 #ifdef __cplusplus
 extern "C" {
@@ -33,7 +33,8 @@ extern "C" {
  * parameters_len        at most 255
  *
  * Of receipt, sending and choosing
- * mode                  0 the house default, which is 1; 1 simple tagging; 2 drop invalid; 3 prioritise
+ * mode                  0 the house default, which is 2; 1 simple tagging; 2 drop invalid; 3 prioritise. Invalid routes are tagged
+ *                       and none is dropped where a caller names 1
  *
  * Of receipt and sending
  * local_as, remote_as   the two AS numbers of the session: not 0, and not equal
@@ -173,9 +174,9 @@ uint8_t bgp_origin_state6(uint8_t prefix_length, uint64_t prefix_high, uint64_t 
 uint8_t bgp_received_tag(const uint8_t *block, size_t block_len, size_t *beside);
 
 /*
- * Choosing: without blocks that have an OTC, the client's own routes, in mode 2 invalid routes and in mode 3 all but the best
- * class of states left (0; then 1 and 3; then 2), the route with the shortest path, then the lowest ORIGIN, identifier, address
- * and index.
+ * Choosing: without blocks that have an OTC, the client's own routes, in modes 0 and 2 invalid routes and in mode 3 all but
+ * the best class of states left (0; then 1 and 3; then 2), the route with the shortest path, then the lowest ORIGIN, identifier,
+ * address and index.
  */
 uint8_t bgp_choose(uint8_t mode, uint32_t client,
                    const uint8_t *buffer, size_t buffer_len,

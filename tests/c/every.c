@@ -127,6 +127,9 @@ int main(void)
     sending("P5, from a Provider to a Peer", 4, 1, 0, 3, OWN, BLOCK_MAX, 2, 2, "");
     sending("an OTC to a Peer", 4, 1, 255, 3, OWN OTC "00000001", BLOCK_MAX, 2, 1, "");
     sending("mode 2, invalid, to an RS-Client", 1, 2, 2, 2, OWN, BLOCK_MAX, 2, 3, "");
+    sending("mode 0, invalid, to an RS-Client", 1, 0, 2, 2, OWN, BLOCK_MAX, 2, 3, "");
+    sending("mode 0, not found, to an RS-Client", 1, 0, 255, 1, OWN, BLOCK_MAX, 0, 25, OWN "C01008" TAG "01" OTC "0000FBF4");
+    sending("mode 0, invalid, to a Peer", 4, 0, 255, 2, OWN, BLOCK_MAX, 0, 14, OWN OTC "0000FBF4");
     sending("mode 1, invalid, to an RS-Client", 1, 1, 2, 2, OWN, BLOCK_MAX, 0, 25, OWN "E01008" TAG "02" PARTIAL_OTC "0000FBF4");
     sending("the same of an own route", 1, 1, 255, 2, OWN, BLOCK_MAX, 0, 25, OWN "C01008" TAG "02" OTC "0000FBF4");
     sending("a Customer's route to a Peer", 4, 1, 3, 3, OWN, BLOCK_MAX, 0, 14, OWN PARTIAL_OTC "0000FBF4");
@@ -183,7 +186,9 @@ int main(void)
 
     choosing("the shortest path", 1, 9, text(path, own, 1, with_otc), 0, 1, 2);
     choosing("mode 2 removes the invalid", 2, 9, text(path, own, 1, with_otc), 0, 0, 1);
-    choosing("the client's own route removed", 0, 0x0A000002, text(path, own, 1, with_otc), 0, 0, 1);
+    choosing("mode 0 removes the invalid", 0, 9, text(path, own, 1, with_otc), 0, 0, 1);
+    choosing("mode 0, and only the invalid", 0, 9, own, 11, 0, 0);
+    choosing("the client's own route removed", 1, 0x0A000002, text(path, own, 1, with_otc), 0, 0, 1);
     choosing("64 candidates", 3, 9, text("", path, 64, ""), 0, 0, 64);
     choosing("65 candidates", 3, 9, text("", path, 65, ""), 6, 0, 0);
     choosing("a table of 18 bytes", 0, 9, text(path, "00", 1, ""), 6, 0, 0);

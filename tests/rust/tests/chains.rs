@@ -112,9 +112,9 @@ fn answer(ended: &End) -> (u8, usize) {
     }
 }
 
-// A chain with these roles, in simple tagging, that agrees and ends as it should.
+// A chain with these roles, mode 1 named on every session, that agrees and ends as it should.
 fn sound(random: &mut Random, roles: &[u8]) -> (u8, usize) {
-    let (hops, block) = (hops(random, roles, &[0, 1]), originated(random));
+    let (hops, block) = (hops(random, roles, &[1]), originated(random));
     let ended = agreed(random, &block, &hops);
     let judged = as_it_should(&block, &hops, &ended);
     judged.unwrap_or_else(|how| panic!("{how}"));
@@ -214,6 +214,10 @@ fn marks_for_the_other(s: Session, source: u8, state: u8, b: &[u8], out: &mut [u
     bgp_policy::send(other, source, state, b, out)
 }
 
+fn sends_by_default(s: Session, source: u8, state: u8, b: &[u8], out: &mut [u8]) -> (u8, usize) {
+    bgp_policy::send(Session { mode: 0, ..s }, source, state, b, out)
+}
+
 // That chains can go wrong: wrong functions in the library's place do not go as they should.
 #[test]
 fn wrong_functions_are_found() {
@@ -223,6 +227,7 @@ fn wrong_functions_are_found() {
         judges_own_routes,
         forgets_the_source,
         marks_for_the_other,
+        sends_by_default,
     ];
     let wrong_sends = sends.map(|send| Side { send, ..LIBRARY });
     let receive = copies;

@@ -91,20 +91,25 @@ fn blocks_with_an_otc_and_own_routes_are_removed() {
     assert_eq!(chosen(0, &offers), (11, 0, 0));
     offers[9] = with(TWO, INVALID, 9, 9);
     offers[8] = with(EMPTY, VALID, 0, CLIENT);
-    for mode in [0, 1, 3] {
+    for mode in [1, 3] {
         assert_eq!(chosen(mode, &offers), (0, 9, 1));
     }
-    assert_eq!(chosen(2, &offers), (11, 0, 0));
+    for mode in [0, 2] {
+        assert_eq!(chosen(mode, &offers), (11, 0, 0));
+    }
 }
 
 #[test]
-fn mode_2_drops_invalid_routes() {
+fn modes_2_and_0_drop_invalid_routes() {
     let offers = all(|i| with(EMPTY, (i % 4) as u8, 1, 64 - i + CLIENT));
     // 16 of each state: the highest index that is left has the lowest address
     assert_eq!(chosen(1, &offers), (0, 63, 64));
-    assert_eq!(chosen(2, &offers), (0, 63, 48));
     let invalid = all(|i| with(EMPTY, INVALID, i, i + 8));
-    assert_eq!(chosen(2, &invalid), (11, 0, 0));
+    for mode in [0, 2] {
+        assert_eq!(chosen(mode, &offers), (0, 63, 48));
+        assert_eq!(chosen(mode, &invalid), (11, 0, 0));
+    }
+    assert_eq!(chosen(1, &invalid), (0, 0, 64));
 }
 
 #[test]

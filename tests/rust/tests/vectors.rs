@@ -1,4 +1,4 @@
-//! Every line of ../vectors/Q-02 but the desk's, through the library, the reference and fast Rust: the answer, the number beside it,
+//! Every line of ../vectors/Q-09 but the desk's, through the library, the reference and fast Rust: the answer, the number beside it,
 //! and the output buffer to its end.
 use bgp_policy::{table, Candidate, Offer, Session, BLOCK_MAX};
 use policy_tests::chain::{end, run, End, Hop};

@@ -1,8 +1,8 @@
 //! The choice of one route for a route-server client, and the comparison of two candidates.
 use super::block::{Block, Segments};
-use super::{number, Answer};
+use super::{drops_invalid, number, Answer};
 use super::{BAD_CANDIDATE, BAD_SETTING, DONE, NO_ROUTE, TOO_LONG};
-use super::{DROP_INVALID, INVALID, PRIORITISE, UNAVAILABLE, VALID};
+use super::{INVALID, PRIORITISE, UNAVAILABLE, VALID};
 use super::{MAX_BLOCK, MAX_CANDIDATES};
 use bgp_policy::Candidate;
 
@@ -79,7 +79,7 @@ pub fn choose(mode: u8, client: u32, buffer: &[u8], candidates: &[u8]) -> (u8, u
             return (BAD_CANDIDATE, index, 0);
         };
         let own = read.rank.address == client;
-        let dropped = mode == DROP_INVALID && read.state == INVALID;
+        let dropped = drops_invalid(mode) && read.state == INVALID;
         *route = (!read.has_otc && !own && !dropped).then_some(read);
     }
     if mode == PRIORITISE {

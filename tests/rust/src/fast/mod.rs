@@ -1,5 +1,5 @@
-//! Document 01, with document 02's, in the best plain Rust that we can write: the same functions as the proved library's,
-//! over the same types, to measure it against. The tests hold both to `reference`.
+//! Document 01, with document 02's, in the best plain Rust that we can write: the same functions as the proved
+//! library's, over the same types, to measure it against. The tests hold both to `reference`.
 mod block;
 mod choice;
 mod desk;
@@ -46,6 +46,7 @@ const NOT_FOUND: u8 = 1;
 const INVALID: u8 = 2;
 const UNAVAILABLE: u8 = 3;
 
+const HOUSE_DEFAULT: u8 = 0;
 const DROP_INVALID: u8 = 2;
 const PRIORITISE: u8 = 3;
 
@@ -54,6 +55,11 @@ const MAX_BLOCK: usize = 4_073;
 const MAX_PARAMETERS: usize = 255;
 const MAX_VRPS: usize = 4_096;
 const MAX_CANDIDATES: usize = 64;
+
+/// Whether a mode drops invalid routes, on the way to an RS-Client and in choosing.
+fn drops_invalid(mode: u8) -> bool {
+    matches!(mode, HOUSE_DEFAULT | DROP_INVALID)
+}
 
 /// The role that the other end of a session has; `role` is one of the five.
 fn remote_role(role: u8) -> u8 {

@@ -1,10 +1,10 @@
 //! Receipt and sending: the verdict on a block, and the block that is kept or sent.
 use super::block::Block;
 use super::write::{store, LEARNED, OWN};
-use super::{remote_role, Answer};
+use super::{drops_invalid, remote_role, Answer};
 use super::{BAD_SETTING, LEAK, MALFORMED, TOO_LONG, WITHHELD};
 use super::{CUSTOMER, PEER, PROVIDER, RS, RS_CLIENT};
-use super::{DROP_INVALID, INVALID, MAX_BLOCK, OWN_SOURCE, PRIORITISE, UNAVAILABLE};
+use super::{INVALID, MAX_BLOCK, OWN_SOURCE, PRIORITISE, UNAVAILABLE};
 use bgp_policy::Session;
 
 /// Whether every setting of a session is in range.
@@ -71,7 +71,7 @@ fn send_read(session: &Session, source: u8, state: u8, block: &Block, out: &mut 
             return (WITHHELD, 2);
         }
     }
-    if session.mode == DROP_INVALID && state == INVALID && to == RS_CLIENT {
+    if drops_invalid(session.mode) && state == INVALID && to == RS_CLIENT {
         return (WITHHELD, 3);
     }
     let tags = to == RS_CLIENT && state != UNAVAILABLE;

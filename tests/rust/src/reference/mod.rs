@@ -1,6 +1,6 @@
-//! Document 01 in plain Rust, with document 02's, written from their text alone and slow on purpose: whole lists that are
-//! read, altered and written anew. The tests compare the proved library with it. A file follows a section of document 01 or a request;
-//! sentences in quotes are its, after "Q-1:" or "Q-7:" those of that request.
+//! Document 01 in plain Rust, with document 02's, written from their text alone and slow on purpose: whole lists
+//! that are read, altered and written anew. The tests compare the proved library with it. A file follows a section of document 01 or a
+//! request; sentences in quotes are its, after "Q-1:" or another request's number those of that request.
 mod block;
 mod choice;
 mod desk;
@@ -52,7 +52,6 @@ const INVALID: u8 = 2;
 const UNAVAILABLE: u8 = 3;
 
 // "Modes"
-const SIMPLE_TAGGING: u8 = 1;
 const DROP_INVALID: u8 = 2;
 const PRIORITISE: u8 = 3;
 
@@ -80,10 +79,10 @@ fn check_session(session: Session) -> Result<(), Refusal> {
     demand(session.mode <= 3, OUT_OF_RANGE)
 }
 
-/// "0 the house default, which is 1".
+/// "0 the house default"; Q-9: "mode 0 now means mode 2".
 fn mode_meant(mode: u8) -> u8 {
     match mode {
-        0 => SIMPLE_TAGGING,
+        0 => DROP_INVALID,
         named => named,
     }
 }
