@@ -7,9 +7,11 @@ use rules::Opened;
 use rules::Received;
 use rules::Refusal;
 use rules::Stated;
+use rules::TagRead;
 use settings::answers::refusal_number;
 ghost use mathlib.Core.Path.{_≡_};
-ghost use Rattle.rules.specs.Answers.{refused, number, answerNumber, besideNumber, toldOpened, toldReceived, toldAdvertised, toldStated};
+ghost use mathlib.Core.Option.{Option·getD};
+ghost use Rattle.rules.specs.Answers.{refused, number, answerNumber, besideNumber, toldOpened, toldReceived, thrownReceived, toldAdvertised, toldStated, toldTagRead, thrownRead};
 ghost use Rattle.rules.specs.Index.{toldIndexed, toldLookedUp, LookUpNumbers};
 ghost use Rattle.rules.specs.Choice.{toldChosen, indexTold, leftTold};
 
@@ -48,16 +50,37 @@ pub fn report_opened(answer: Opened, beside: &mut usize) -> u8
     }
 }
 
-// An answer of receipt as numbers: likewise, with the length on answer 0.
-pub fn report_received(answer: Received, beside: &mut usize) -> u8
-    ensures { λ r. ⌜ (r ≡ answerNumber (toldReceived answer)) × (now (beside .exit) ≡ besideNumber (toldReceived answer)) ⌝ }
+// A refusal that has no number of tags thrown out beside it, as numbers: likewise, and through `thrown_out` 0.
+fn report_unnumbered(refusal: Refusal, beside: &mut usize, thrown_out: &mut usize) -> u8
+    ensures { λ r. ⌜ (r ≡ number refusal) × (now (beside .exit) ≡ besideNumber (refused refusal)) × (now («thrown_out» .exit) ≡ 0) ⌝ }
+{
+    *thrown_out = 0;
+    report_refusal(refusal, beside)
+}
+
+// An answer of receipt as numbers: likewise, with the length on answer 0, and through `thrown_out` how many tags are thrown out, 0
+// where no such number is told.
+pub fn report_received(answer: Received, beside: &mut usize, thrown_out: &mut usize) -> u8
+    ensures { λ r. ⌜ (r ≡ answerNumber (toldReceived answer)) × (now (beside .exit) ≡ besideNumber (toldReceived answer))
+        × (now («thrown_out» .exit) ≡ Option·getD (thrownReceived answer) 0) ⌝ }
 {
     match answer {
-        Received::Block(length) => {
+        Received::Block {
+            length,
+            thrown_out: thrown,
+        } => {
             *beside = length;
+            *thrown_out = thrown;
             0
         }
-        Received::Refused(refusal) => report_refusal(refusal, beside),
+        Received::Ineligible {
+            rule,
+            thrown_out: number,
+        } => {
+            *thrown_out = number;
+            report_refusal(Refusal::Ineligible(rule), beside)
+        }
+        Received::Refused(refusal) => report_unnumbered(refusal, beside, thrown_out),
     }
 }
 
@@ -84,6 +107,24 @@ pub fn report_stated(answer: Stated, beside: &mut usize) -> u8
             0
         }
         Stated::Refused(refusal) => report_refusal(refusal, beside),
+    }
+}
+
+// An answer of the tag reader as numbers: likewise, and through `thrown_out` how many tags are thrown out, 0 on a refusal.
+pub fn report_tag_read(answer: TagRead, beside: &mut usize, thrown_out: &mut usize) -> u8
+    ensures { λ r. ⌜ (r ≡ answerNumber (toldTagRead answer)) × (now (beside .exit) ≡ besideNumber (toldTagRead answer))
+        × (now («thrown_out» .exit) ≡ Option·getD (thrownRead answer) 0) ⌝ }
+{
+    match answer {
+        TagRead::State {
+            state,
+            thrown_out: erroneous,
+        } => {
+            *beside = state as usize;
+            *thrown_out = erroneous;
+            0
+        }
+        TagRead::Refused(refusal) => report_unnumbered(refusal, beside, thrown_out),
     }
 }
 

@@ -6,13 +6,16 @@ use answers::report_chosen;
 use answers::report_opened;
 use answers::report_received;
 use answers::report_stated;
+use answers::report_tag_read;
 use choice::keys::Sender;
 use rules::Session;
 use vrps::prefixes::words6;
 ghost use mathlib.Core.Path.{_≡_};
 ghost use Prim.Native.Nat.{_+_, _*_, _^_};
+ghost use mathlib.Core.Option.{Option·getD};
 ghost use Rattle.rules.specs.Answers.{answerNumber, besideNumber};
 ghost use Rattle.rules.specs.Roles.{openSession};
+ghost use Rattle.rules.specs.Changes.{thrownTold};
 ghost use Rattle.rules.specs.Receipt.{receiptVerdict};
 ghost use Rattle.rules.specs.Sending.{sendingVerdict};
 ghost use Rattle.rules.specs.Origin.{ipv4, ipv6, originState, receivedTag};
@@ -28,7 +31,7 @@ pub extern "C" fn bgp_open(local_role: u8, strict: u8, parameters: &[u8], beside
     report_opened(answer, beside)
 }
 
-// Receipt of a block on a session.
+// Receipt of a block on a session; on answers 0 and 1, through `thrown_out`, how many tags of the block are thrown out, 0 on any other.
 #[no_mangle]
 pub extern "C" fn bgp_receive(
     local_as: u32,
@@ -38,8 +41,10 @@ pub extern "C" fn bgp_receive(
     block: &[u8],
     out: &mut [u8],
     beside: &mut usize,
+    thrown_out: &mut usize,
 ) -> u8
-    ensures { λ r. ⌜ Reported (receiptVerdict (record { «local_as» = «local_as»; «remote_as» = «remote_as»; «local_role» = «local_role»; mode = mode }) (now (block .entry))) (now (out .entry)) r (now (beside .exit)) (now (out .exit)) ⌝ }
+    ensures { λ r. ⌜ (Reported (receiptVerdict (record { «local_as» = «local_as»; «remote_as» = «remote_as»; «local_role» = «local_role»; mode = mode }) (now (block .entry))) (now (out .entry)) r (now (beside .exit)) (now (out .exit)))
+        × (now («thrown_out» .exit) ≡ Option·getD (thrownTold r (now (block .entry))) 0) ⌝ }
 {
     let session = Session {
         local_as,
@@ -48,7 +53,7 @@ pub extern "C" fn bgp_receive(
         mode,
     };
     let answer = policy::receive(session, block, out);
-    report_received(answer, beside)
+    report_received(answer, beside, thrown_out)
 }
 
 // Sending of a block on a session.
@@ -110,13 +115,14 @@ pub extern "C" fn bgp_origin_state6(
     report_stated(answer, beside)
 }
 
-// The state that the tags received in a block tell.
+// The state that the tags received in a block tell, and through `thrown_out` how many of them are thrown out, 0 on a refusal.
 #[no_mangle]
-pub extern "C" fn bgp_received_tag(block: &[u8], beside: &mut usize) -> u8
-    ensures { λ r. ⌜ (r ≡ answerNumber (receivedTag (now (block .entry)))) × (now (beside .exit) ≡ besideNumber (receivedTag (now (block .entry)))) ⌝ }
+pub extern "C" fn bgp_received_tag(block: &[u8], beside: &mut usize, thrown_out: &mut usize) -> u8
+    ensures { λ r. ⌜ (r ≡ answerNumber (receivedTag (now (block .entry)))) × (now (beside .exit) ≡ besideNumber (receivedTag (now (block .entry))))
+        × (now («thrown_out» .exit) ≡ Option·getD (thrownTold r (now (block .entry))) 0) ⌝ }
 {
     let answer = origin::received_tag(block);
-    report_stated(answer, beside)
+    report_tag_read(answer, beside, thrown_out)
 }
 
 // The route for a client, among the candidates of a table.

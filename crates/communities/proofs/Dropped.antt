@@ -44,6 +44,6 @@ module _ (dropped : List ℕ → Bool) where
 
     -- The same of how many bytes are left.
     pub left-count : (n : ℕ) {k total : ℕ} → 8 ≤ length v - at → n + length (dropFrom dropped (drop at v)) ≡ total
-        → k ≡ length (kept dropped (take (at + 8 - at) (drop at v))) → n + k + length (dropFrom dropped (drop (at + 8) v)) ≡ total
+        → k ≡ n + length (kept dropped (take (at + 8 - at) (drop at v))) → k + length (dropFrom dropped (drop (at + 8) v)) ≡ total
     left-count n h e q =
         omega (arith, ap length (left-step h), length-append (kept dropped (take (at + 8 - at) (drop at v))) (dropFrom dropped (drop (at + 8) v)))

@@ -5,13 +5,14 @@ use mathlib.Core.Bool.{Bool, true, false, cond}
 use mathlib.Core.List.{List, [], _∷_, map, foldl}
 use native.Mathlib.Nat.{max-eq-left, max-eq-right}
 use native.Mathlib.Omega.{arith}
-use borrow.Author.Tests.{ltb-true, ltb-false, leb-true, ne-eqb}
+use borrow.Author.Tests.{ltb-true, ltb-false, leb-true, le-leb, lt-leb, ne-eqb}
 use lib.Dec.{leb, ltb}
 use lib.ListN.{length, take, drop, getD}
 use Rattle.rules.specs.Bytes.{keep}
 use Rattle.rules.specs.Settings.{unavailable}
-use Rattle.rules.specs.Changes.{isTag, communities}
+use Rattle.rules.specs.Changes.{isTag, isErroneous, communities}
 use Rattle.rules.specs.Origin.{tagValues, greatest, tagState}
+use Rattle.rules.proofs.Lists.{and-left, and-right}
 use Rattle.octets.proofs.Positions.{items-next, items-end}
 use Rattle.communities.specs.Received.{greater, withValueOf, withCommunity}
 
@@ -56,6 +57,21 @@ tags-alone (c ∷ l) state = go (isTag c) (tags-alone l)
         → foldl withCommunity (cond b (withValueOf state (getD c 7 0)) state) l ≡ foldl withValueOf state (map (λ c. getD c 7 0) (cond b (c ∷ keep isTag l) (keep isTag l)))
     go true p = p (withValueOf state (getD c 7 0))
     go false p = p state
+
+-- One community more, by what it is: a tag above 2, a tag up to 2, no tag.
+module _ (state : ℕ) (c : List ℕ) where
+  pub with-erroneous : isErroneous c ≡ true → withCommunity state c ≡ state
+  unfolding isErroneous withCommunity withValueOf
+  with-erroneous h =
+      rw (and-left (isTag c) (ltb 2 (getD c 7 0)) h, lt-leb (getD c 7 0) 2 (ltb-true 2 (getD c 7 0) (and-right (isTag c) (ltb 2 (getD c 7 0)) h))) refl
+
+  pub with-tag : isErroneous c ≡ false → isTag c ≡ true → withCommunity state c ≡ greater state (getD c 7 0)
+  unfolding isErroneous withCommunity withValueOf
+  with-tag h t = let l : ltb 2 (getD c 7 0) ≡ false = rw t at h in rw (t, le-leb (getD c 7 0) 2 (ltb-false 2 (getD c 7 0) l)) refl
+
+  pub with-other : isTag c ≡ false → withCommunity state c ≡ state
+  unfolding withCommunity
+  with-other t = rw t refl
 
 module _ (v : List ℕ) where
   -- Nothing is read yet, a community is read, nothing is left to read.

@@ -5,7 +5,7 @@ use settings::states::INVALID;
 ghost use mathlib.Core.Path.{_≡_};
 ghost use Prim.Native.Nat.{_+_, _≤_};
 ghost use lib.ListN.{length};
-ghost use Rattle.rules.specs.Changes.{isTag};
+ghost use Rattle.rules.specs.Changes.{isTag, isErroneous};
 ghost use Rattle.octets.specs.Buffer.{Stored};
 ghost use Rattle.communities.specs.Tags.{dropTest, tagBytes};
 
@@ -29,6 +29,17 @@ pub fn is_tag(c: &[u8]) -> bool
         return false;
     }
     c[1] == TAG_SUBTYPE
+}
+
+// Whether a community is a tag above 2, which is thrown out (02, Q-8; RFC 8097 section 2). Internal.
+pub fn is_erroneous(c: &[u8]) -> bool
+    requires { ⌜ length (now c) ≡ 8 ⌝ }
+    ensures { λ r. ⌜ r ≡ isErroneous (now (c .entry)) ⌝ }
+{
+    if !is_tag(c) {
+        return false;
+    }
+    INVALID < c[7]
 }
 
 // Whether a community is dropped by the test of this number. Internal.

@@ -6,7 +6,7 @@ use mathlib.Core.List.{List, [], _∷_, _++_}
 use native.Mathlib.Omega.{arith}
 use lib.ListN.{length, take, drop, length-append}
 use lib.Seq.{take-add}
-use Rattle.rules.specs.Desk.{lineAnswer, lineNext}
+use Rattle.rules.specs.Desk.{lineAnswer, lineField, lineNext}
 use Rattle.octets.proofs.Slices.{tail-is, tail-length}
 use Rattle.octets.proofs.Writing.{stored-none, stored-then}
 use Rattle.input_lines.specs.declared.Cut.{Cut}
@@ -22,7 +22,7 @@ use Rattle.desk_lines.specs.Machine.{deskSays, deskNext, turnOf, future,
 
 -- A line over 8,192 digits is answered 12 and changes nothing, whatever it holds.
 desk-capped : Capped deskSays deskNext
-unfolding deskSays deskNext lineAnswer lineNext
+unfolding deskSays deskNext lineAnswer lineField lineNext
 desk-capped =
     record {
       alike = λ t p q h k. (rw (← unreadable-long p h, ← unreadable-long q k) refl, rw (← unreadable-long p h, ← unreadable-long q k) refl);

@@ -7,7 +7,7 @@ use lib.ListN.{take}
 use Rattle.rules.specs.Rows.{chop, chopUpTo}
 use Rattle.rules.specs.Origin.{vrps}
 use Rattle.rules.specs.Text.{lines, saidFrom}
-use Rattle.rules.specs.Desk.{Desk, newDesk, outputLine, lineAnswer, lineNext, deskFrom, desk}
+use Rattle.rules.specs.Desk.{Desk, newDesk, outputLine, lineAnswer, lineField, lineNext, deskFrom, desk}
 use Rattle.octets.specs.Buffer.{Stored}
 use Rattle.octets.proofs.Writing.{stored-front}
 use Rattle.input_lines.specs.Feeding.{Runs, finished as ended, fed}
@@ -20,7 +20,7 @@ use Rattle.desk_lines.specs.Machine.{deskSays, deskNext, turnOf, begun, 
 pub desk-said : (n : ℕ) (d : Desk) (ls : List (List ℕ)) → deskFrom n d ls ≡ saidFrom deskSays deskNext (record { number = n; desk = d }) ls
 unfolding deskFrom saidFrom deskSays deskNext
 desk-said n d [] = refl
-desk-said n d (l ∷ ls) = ap (λ (r : List ℕ). outputLine n (lineAnswer d l) ++ r) (desk-said (suc n) (lineNext d l) ls)
+desk-said n d (l ∷ ls) = ap (λ (r : List ℕ). outputLine n (lineAnswer d l) (lineField d l) ++ r) (desk-said (suc n) (lineNext d l) ls)
 
 -- What is stored from the start of a buffer is what its front holds.
 stored-said : {out said out′ : List ℕ} {w end : ℕ} → w ≡ 0 → Stored out w said end out′ → take end out′ ≡ said

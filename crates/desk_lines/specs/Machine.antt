@@ -7,13 +7,15 @@ use mathlib.Core.List.{List, [], _∷_, _++_}
 use lib.ListN.{length, take}
 use Rattle.rules.specs.Answers.{Answer, answerNumber}
 use Rattle.rules.specs.Text.{lines, saidFrom, space, decimal}
-use Rattle.rules.specs.Desk.{Desk, outputLine, shownResult, lineAnswer, lineNext}
+use Rattle.rules.specs.Desk.{Desk, outputLine, shownResult, lineAnswer, lineField, lineNext}
 use Rattle.octets.specs.Buffer.{Stored}
 use Rattle.input_lines.specs.Lines.{Holds}
 use Rattle.input_lines.specs.Feeding.{Feeds}
 use Rattle.desk_lines.specs.declared.state.Progress.{Progress}
 use Rattle.desk_lines.specs.declared.state.State.{State}
 use Rattle.frames.specs.Sizes.{resultMax}
+use Rattle.frames.specs.Replying.{replied, shownField}
+use Rattle.frames.specs.declared.reply.Outcome.{Outcome}
 use Rattle.desk_lines.specs.Sizes.{frameMax, answerMax}
 use Rattle.desk_memory.specs.Keeping.{deskOf, Keeps}
 
@@ -26,14 +28,18 @@ pub record Turn : Type 0 where
 
 -- What it says of a line, and where it stands after it.
 unfoldable pub deskSays : Turn → List ℕ → List ℕ
-deskSays t l = outputLine (t .number) (lineAnswer (t .desk) l)
+deskSays t l = outputLine (t .number) (lineAnswer (t .desk) l) (lineField (t .desk) l)
 
 unfoldable pub deskNext : Turn → List ℕ → Turn
 deskNext t l = record { number = suc (t .number); desk = lineNext (t .desk) l }
 
--- An answer in the line that goes out, after the line's number and before its end.
+-- An answer in the line that goes out, after the line's number and before the fourth field.
 abbrev pub shownAnswer : Answer (List ℕ) → List ℕ
 shownAnswer a = decimal (answerNumber a) ++ (space ∷ shownResult a)
+
+-- The line that goes out for what is told of a line of this number.
+abbrev pub toldLine : ℕ → List ℕ → Outcome → List ℕ
+toldLine n made outcome = outputLine n (replied made (outcome .reply)) (shownField (outcome .field))
 
 -- ---- States
 

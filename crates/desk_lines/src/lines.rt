@@ -1,8 +1,11 @@
-// One line: read, answered, and the line that goes out (01, "The desk program").
+// One line: read, answered, and the line that goes out (01, "The desk program"; 02, Q-8).
 use super::state::State;
 use desk_memory::answer_frame;
 use desk_memory::keep_frame;
+use frames::reply::Field;
+use frames::reply::Outcome;
 use frames::reply::Reply;
+use frames::reply::plain;
 use input_lines::LINE_FEED;
 use octets::buffer::put;
 use octets::buffer::put_byte;
@@ -15,13 +18,13 @@ ghost use mathlib.Core.Path.{_≡_};
 ghost use Prim.Native.Nat.{_+_, _*_, _≤_, _<_, _^_};
 ghost use lib.ListN.{length};
 ghost use Rattle.rules.specs.Answers.{done};
-ghost use Rattle.rules.specs.Desk.{shownResult, outputLine};
+ghost use Rattle.rules.specs.Desk.{shownResult};
 ghost use Rattle.octets.specs.Buffer.{Stored};
 ghost use Rattle.frames.specs.Sizes.{resultMax};
-ghost use Rattle.desk_lines.specs.Sizes.{answerMax};
-ghost use Rattle.frames.specs.Replying.{replied, Within, isDone};
+ghost use Rattle.desk_lines.specs.Sizes.{fieldMax, answerMax};
+ghost use Rattle.frames.specs.Replying.{replied, Within, shownField, isDone};
 ghost use Rattle.desk_memory.specs.Keeping.{Keeps};
-ghost use Rattle.desk_lines.specs.Machine.{Lent, Answered, shownAnswer};
+ghost use Rattle.desk_lines.specs.Machine.{Lent, Answered, shownAnswer, toldLine};
 
 // The characters of a line that goes out, beside digits.
 const SPACE: u8 = 32;
@@ -60,15 +63,36 @@ fn put_reply(reply: Reply, made: &[u8], out: &mut [u8], at: usize) -> usize
     }
 }
 
-// Stores the line that goes out. Internal.
-fn put_line(number: u64, reply: Reply, made: &[u8], out: &mut [u8], at: usize) -> usize
-    requires { ⌜ (Within (now made) reply) × (at + answerMax ≤ length (now out)) ⌝ }
-    ensures { λ r. ⌜ (Stored (now (out .entry)) at (outputLine number (replied (now (made .entry)) reply)) r (now (out .exit))) × (r ≤ at + answerMax) ⌝ }
+// Stores the fourth field (02, Q-8), where there is one. Internal.
+fn put_field(field: Field, out: &mut [u8], at: usize) -> usize
+    requires { ⌜ at + fieldMax ≤ length (now out) ⌝ }
+    ensures { λ r. ⌜ (Stored (now (out .entry)) at (shownField field) r (now (out .exit))) × (r ≤ at + fieldMax) ⌝ }
 {
+    match field {
+        Field::Absent => at,
+        Field::Dash => {
+            let dash = [SPACE, DASH];
+            put(&dash, out, at)
+        }
+        Field::Number(n) => {
+            let w = put_byte(SPACE, out, at);
+            put_decimal(n as u64, out, w)
+        }
+    }
+}
+
+// Stores the line that goes out. Internal.
+fn put_line(number: u64, outcome: Outcome, made: &[u8], out: &mut [u8], at: usize) -> usize
+    requires { ⌜ (Within (now made) (outcome .reply)) × (at + answerMax ≤ length (now out)) ⌝ }
+    ensures { λ r. ⌜ (Stored (now (out .entry)) at (toldLine number (now (made .entry)) outcome) r (now (out .exit))) × (r ≤ at + answerMax) ⌝ }
+{
+    let reply = outcome.reply;
+    let field = outcome.field;
     let v = put_decimal(number, out, at);
     let w = put_byte(SPACE, out, v);
     let x = put_reply(reply, made, out, w);
-    put_byte(LINE_FEED, out, x)
+    let y = put_field(field, out, x);
+    put_byte(LINE_FEED, out, y)
 }
 
 // Whether an answer is 0.
@@ -97,7 +121,8 @@ pub fn answer_line(
     let at = state.wrote;
     let kept = state.kept;
     if !read_line(line, raw) {
-        let wrote = put_line(number, Reply::Refused(Refusal::Unreadable), made, out, at);
+        let unreadable = plain(Reply::Refused(Refusal::Unreadable));
+        let wrote = put_line(number, unreadable, made, out, at);
         return State {
             number,
             held: 0,
@@ -106,8 +131,9 @@ pub fn answer_line(
         };
     }
     let frame = &raw[..line.len() / 2];
-    let reply = answer_frame(kept, tables, frame, made);
-    let wrote = put_line(number, reply, made, out, at);
+    let outcome = answer_frame(kept, tables, frame, made);
+    let wrote = put_line(number, outcome, made, out, at);
+    let reply = outcome.reply;
     let kept = keep_frame(kept, frame, is_done(reply), tables);
     State {
         number,

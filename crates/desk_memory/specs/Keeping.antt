@@ -1,14 +1,18 @@
 -- What the desk keeps as the definition's desk.
 use Prim.Native.Nat.{ℕ, _%_, _≤_}
 use mathlib.Core.Path.{_≡_}
-use mathlib.Core.Bool.{Bool, cond}
+use mathlib.Core.Bool.{Bool, cond, _||_}
 use mathlib.Core.List.{List}
 use mathlib.Core.Option.{none, some}
+use lib.Dec.{eqb}
 use lib.ListN.{length, take, drop}
 use Rattle.rules.specs.Origin.{ipv4, ipv6, vrpSize, vrps}
-use Rattle.rules.specs.Desk.{Desk, sessionIn, frameAnswer, frameNext}
+use Rattle.rules.specs.Desk.{Desk, receiptKind, receipt6Kind, sessionIn, frameAnswer, frameField, frameNext}
+use Rattle.rules.specs.declared.Refusal.the-variants.{Unreadable}
 use Rattle.vrp_tables.specs.Scan.{GoodTable}
-use Rattle.frames.specs.Replying.{wasDone}
+use Rattle.frames.specs.Replying.{Tells, plain, dashed, wasDone}
+use Rattle.frames.specs.declared.reply.Reply.the-variants.{Refused}
+use Rattle.frames.specs.declared.reply.Outcome.{Outcome}
 use Rattle.desk_memory.specs.declared.kept.Kept.{Kept}
 use Rattle.desk_memory.specs.Sizes.{tableMax, tablesMax}
 
@@ -40,6 +44,17 @@ pub record Keeps (k : Kept) (tables : List ℕ) : Type 0 where
   pub room : length tables ≡ tablesMax
   pub four : TableKept ipv4 (k .used) (memory4 tables)
   pub six : TableKept ipv6 (k .used6) (memory6 tables)
+
+-- Whether a frame that begins so is a receipt, and what is told of one that is not answered.
+unfoldable pub isReceipt : ℕ → Bool
+isReceipt kind = eqb kind receiptKind || eqb kind receipt6Kind
+
+unfoldable pub unreadable : ℕ → Outcome
+unreadable kind = cond (isReceipt kind) (dashed Unreadable) (plain (Refused Unreadable))
+
+-- What is told of a frame is its answer and its fourth field.
+abbrev pub TellsFrame : Desk → List ℕ → List ℕ → Outcome → Type 0
+TellsFrame d f made outcome = Tells (frameAnswer d f) (frameField f (frameAnswer d f)) made outcome
 
 -- Whether a frame was taken is what the definition says.
 abbrev pub Agrees : Desk → List ℕ → Bool → Type 0

@@ -1,4 +1,4 @@
-// What the desk keeps: frames answered from it by their first byte, and what it is after them (01, "The desk program"; 02, Q-1). All of
+// What the desk keeps: frames answered from it by their first byte, and what it is after them (01, "The desk program"; 02, Q-1, Q-8). All of
 // it is internal: the desk's byte machine calls it. The two tables share one memory: that of IPv4 first, and from `TABLE_MAX` on the four
 // parts of that of IPv6.
 pub mod kept;
@@ -9,7 +9,10 @@ use frames::kinds::sending_frame;
 use frames::kinds::session_frame;
 use frames::kinds::session_in;
 use frames::kinds::vrp_frame;
+use frames::reply::Outcome;
 use frames::reply::Reply;
+use frames::reply::dashed;
+use frames::reply::plain;
 use kept::Kept;
 use octets::buffer::put;
 use rules::Refusal;
@@ -20,10 +23,8 @@ ghost use mathlib.Core.Path.{_≡_};
 ghost use mathlib.Core.Bool.{true};
 ghost use Prim.Native.Nat.{_≤_};
 ghost use lib.ListN.{length};
-ghost use Rattle.rules.specs.Desk.{frameAnswer};
 ghost use Rattle.frames.specs.Sizes.{resultMax};
-ghost use Rattle.frames.specs.Replying.{Replies};
-ghost use Rattle.desk_memory.specs.Keeping.{deskOf, Keeps, Agrees, KeptNext, keptSession};
+ghost use Rattle.desk_memory.specs.Keeping.{deskOf, isReceipt, unreadable, TellsFrame, Keeps, Agrees, KeptNext, keptSession};
 
 // The kinds of frames, by their first byte.
 const SESSION: u8 = 1;
@@ -38,25 +39,45 @@ const RECEIPT6: u8 = 18;
 
 const VRP6: u8 = 20;
 
+// Whether a frame that begins so is a receipt. Internal.
+fn is_receipt(kind: u8) -> bool
+    ensures { λ r. ⌜ r ≡ isReceipt kind ⌝ }
+{
+    if kind == RECEIPT {
+        return true;
+    }
+    kind == RECEIPT6
+}
+
+// A frame that there is no session for, or of no kind known: a receipt has its fourth field all the same. Internal.
+fn unreadable_frame(kind: u8) -> Outcome
+    ensures { λ r. ⌜ r ≡ unreadable kind ⌝ }
+{
+    if is_receipt(kind) {
+        return dashed(Refusal::Unreadable);
+    }
+    plain(Reply::Refused(Refusal::Unreadable))
+}
+
 // A frame of any kind. Internal.
-pub fn answer_frame(kept: Kept, tables: &[u8], frame: &[u8], made: &mut [u8]) -> Reply
+pub fn answer_frame(kept: Kept, tables: &[u8], frame: &[u8], made: &mut [u8]) -> Outcome
     requires { ⌜ (1 ≤ length (now frame)) × (Keeps kept (now tables)) × (length (now made) ≡ resultMax) ⌝ }
-    ensures { λ r. ⌜ Replies (frameAnswer (deskOf kept (now (tables .entry))) (now (frame .entry))) (now (made .exit)) r ⌝ }
+    ensures { λ r. ⌜ TellsFrame (deskOf kept (now (tables .entry))) (now (frame .entry)) (now (made .exit)) r ⌝ }
 {
     let kind = frame[0];
     if kind == SESSION {
-        return session_frame(frame, made);
+        return plain(session_frame(frame, made));
     }
     let used = kept.used;
     if kind == VRP {
-        return vrp_frame(IPV4, used, frame, made);
+        return plain(vrp_frame(IPV4, used, frame, made));
     }
     let used6 = kept.used6;
     if kind == VRP6 {
-        return vrp_frame(IPV6, used6, frame, made);
+        return plain(vrp_frame(IPV6, used6, frame, made));
     }
     if !kept.live {
-        return Reply::Refused(Refusal::Unreadable);
+        return unreadable_frame(kind);
     }
     let session = kept.session;
     if kind == RECEIPT {
@@ -67,9 +88,9 @@ pub fn answer_frame(kept: Kept, tables: &[u8], frame: &[u8], made: &mut [u8]) ->
         return receipt_frame(IPV6, session, table, frame, made);
     }
     if kind == SENDING {
-        return sending_frame(session, frame, made);
+        return plain(sending_frame(session, frame, made));
     }
-    Reply::Refused(Refusal::Unreadable)
+    unreadable_frame(kind)
 }
 
 // What is kept after a session frame that was answered 0, or not. Internal.

@@ -1,3 +1,4 @@
--- Laws of frames, and of VRP frames.
+-- Laws of frames, of VRP frames, and of the fourth field.
 pub mod Framing
 pub mod Tabling
+pub mod Fields

@@ -1,6 +1,9 @@
-// Frames of each kind, answered (01, "The desk program"). Each function stores its result at the start of `made`, which its caller
-// lends, and answers how many bytes that is, or a refusal. All of it is internal: `answer_frame` calls it.
+// Frames of each kind, answered (01, "The desk program"; 02, Q-8). Each function stores its result at the start of `made`, which its
+// caller lends, and answers how many bytes that is, or a refusal. All of it is internal: `answer_frame` calls it.
+use super::reply::Outcome;
 use super::reply::Reply;
+use super::reply::dashed;
+use super::reply::numbered;
 use as_path::path_origin;
 use attributes::value;
 use octets::number4;
@@ -25,11 +28,11 @@ ghost use mathlib.Core.List.{List};
 ghost use Prim.Native.Nat.{_*_, _≤_};
 ghost use lib.ListN.{length};
 ghost use Rattle.rules.specs.Origin.{Vrp, vrpSize, vrps};
-ghost use Rattle.rules.specs.Desk.{sessionIn, sessionFrame, receiptFrame, sendingFrame, vrpFrame};
+ghost use Rattle.rules.specs.Desk.{sessionIn, sessionFrame, sendingFrame, vrpFrame};
 ghost use Rattle.vrp_tables.specs.Scan.{GoodTable};
 ghost use Rattle.frames.specs.Sizes.{resultMax};
 ghost use Rattle.vrps.specs.Widths.{Whole};
-ghost use Rattle.frames.specs.Replying.{Replies};
+ghost use Rattle.frames.specs.Replying.{Replies, TellsReceipt};
 
 // The least bytes of a session frame and of a sending frame.
 const SESSION_MIN: usize = 12;
@@ -72,37 +75,44 @@ pub fn session_frame(frame: &[u8], made: &mut [u8]) -> Reply
     }
 }
 
-// 02 and 12, receipt: prefix length, prefix of so many bits, block; its result is the state, found after the verdict, and the block.
-// Internal.
+// 02 and 12, receipt: prefix length, prefix of so many bits, block; its result is the state, found after the verdict, and the block. The
+// fourth field is how many tags of the block are thrown out. Internal.
 pub fn receipt_frame(
     width: usize,
     session: Session,
     table: &[u8],
     frame: &[u8],
     made: &mut [u8],
-) -> Reply
+) -> Outcome
     requires { ⌜ (Whole width) × (GoodTable width (now table)) × (length (now made) ≡ resultMax) ⌝ }
-    ensures { λ r. ⌜ Replies (receiptFrame width session (vrps width (now (table .entry))) (now (frame .entry))) (now (made .exit)) r ⌝ }
+    ensures { λ r. ⌜ TellsReceipt width session (vrps width (now (table .entry))) (now (frame .entry)) (now (made .exit)) r ⌝ }
 {
     let head = 2 + width / 8;
     if frame.len() < head {
-        return Reply::Refused(Refusal::Unreadable);
+        return dashed(Refusal::Unreadable);
     }
     let len = frame[1];
     if !prefix_length_ok(width, len) {
-        return Reply::Refused(Refusal::BadSetting);
+        return dashed(Refusal::BadSetting);
     }
     let block = &frame[head..];
     let placed = receive_placed(session, block, &mut made[1..]);
     match placed {
         Placed::Refused(refusal) => {
-            return Reply::Refused(refusal);
+            return dashed(refusal);
         }
-        Placed::Block { length, as_path } => {
+        Placed::Ineligible { rule, thrown_out } => {
+            return numbered(Reply::Refused(Refusal::Ineligible(rule)), thrown_out);
+        }
+        Placed::Block {
+            length,
+            as_path,
+            thrown_out,
+        } => {
             let origin = path_origin(value(block, as_path), session.local_as);
             let prefix = words(&frame[2..head]);
             made[0] = scan_parts(width, table, prefix, len, origin);
-            Reply::Bytes(1 + length)
+            numbered(Reply::Bytes(1 + length), thrown_out)
         }
     }
 }

@@ -1,4 +1,4 @@
-// Receipt and sending (RFC 9234 section 5, RFC 8097; 01, "Receipt" and "Sending"): the checks, the verdict, and the block
+// Receipt and sending (RFC 9234 section 5, RFC 8097; 01, "Receipt" and "Sending"; 02, Q-8): the checks, the verdict, and the block
 // rewritten.
 pub mod placed;
 
@@ -6,6 +6,7 @@ use attributes::layout::Reading;
 use attributes::otc_as;
 use attributes::read;
 use attributes::value;
+use communities::left::sift;
 use communities::tags::ALL_TAGS;
 use placed::Placed;
 use rewriting::plan::Output;
@@ -25,8 +26,8 @@ use verdicts::received_otc;
 use verdicts::sending_rule;
 use verdicts::sent_otc;
 use verdicts::sent_tag;
-ghost use Rattle.rules.specs.Answers.{toldReceived, toldAdvertised};
-ghost use Rattle.rules.specs.Receipt.{Got};
+ghost use Rattle.rules.specs.Answers.{toldReceived, thrownReceived, toldAdvertised};
+ghost use Rattle.rules.specs.Receipt.{GotNumbered};
 ghost use Rattle.rules.specs.Sending.{Sent};
 ghost use Rattle.policy.specs.Placed.{GotPlaced};
 
@@ -50,30 +51,38 @@ pub fn receive_placed(session: Session, block: &[u8], out: &mut [u8]) -> Placed
             let otc = otc_as(value(block, place));
             let rule = receipt_rule(session, place < block.len(), otc);
             if rule != 0 {
-                return Placed::Refused(Refusal::Ineligible(rule));
+                let thrown_out = sift(ALL_TAGS, value(block, layout.communities)).thrown_out;
+                return Placed::Ineligible { rule, thrown_out };
             }
             let asn = received_otc(session);
             let flags = new_flags(false);
             let output = store(block, layout, ALL_TAGS, flags, UNAVAILABLE, asn, out);
             match output {
                 Output::Full => Placed::Refused(Refusal::NoRoom),
-                Output::Bytes(length) => Placed::Block {
+                Output::Bytes { length, thrown_out } => Placed::Block {
                     length,
                     as_path: layout.as_path,
+                    thrown_out,
                 },
             }
         }
     }
 }
 
-// Receipt (RFC 9234 section 5, ingress): the route as it may be installed, or why not.
+// Receipt (RFC 9234 section 5, ingress): the route as it may be installed, or why not; on answers 0 and 1 also how many tags of the
+// block received are thrown out.
 pub fn receive(session: Session, block: &[u8], out: &mut [u8]) -> Received
-    ensures { λ r. ⌜ Got session (now (block .entry)) (now (out .entry)) (toldReceived r) (now (out .exit)) ⌝ }
+    ensures { λ r. ⌜ GotNumbered session (now (block .entry)) (now (out .entry)) (toldReceived r) (thrownReceived r) (now (out .exit)) ⌝ }
 {
     let placed = receive_placed(session, block, out);
     match placed {
         Placed::Refused(refusal) => Received::Refused(refusal),
-        Placed::Block { length, as_path } => Received::Block(length),
+        Placed::Ineligible { rule, thrown_out } => Received::Ineligible { rule, thrown_out },
+        Placed::Block {
+            length,
+            as_path,
+            thrown_out,
+        } => Received::Block { length, thrown_out },
     }
 }
 
@@ -104,7 +113,7 @@ pub fn send(session: Session, source: u8, state: u8, block: &[u8], out: &mut [u8
             let output = store(block, layout, ALL_TAGS, flags, tag, asn, out);
             match output {
                 Output::Full => Advertised::Refused(Refusal::NoRoom),
-                Output::Bytes(length) => Advertised::Block(length),
+                Output::Bytes { length, thrown_out } => Advertised::Block(length),
             }
         }
     }

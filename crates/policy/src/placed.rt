@@ -1,8 +1,16 @@
 // What the internal form of receipt answers.
 use rules::Refusal;
 
-// How many bytes of the block were stored, and where the AS_PATH of the block received stands.
+// What receipt answers, and of a block that was taken where the AS_PATH of the block received stands.
 pub enum Placed {
-    Block { length: usize, as_path: usize },
+    Block {
+        length: usize,
+        as_path: usize,
+        thrown_out: usize,
+    },
+    Ineligible {
+        rule: u8,
+        thrown_out: usize,
+    },
     Refused(Refusal),
 }

@@ -9,3 +9,4 @@ pub mod Placed
 pub mod Planned
 pub mod Planning
 pub mod Rooms
+pub mod Thrown

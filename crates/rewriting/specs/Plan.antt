@@ -12,7 +12,7 @@ use Rattle.rules.specs.Settings.{blockMax, invalid}
 use Rattle.rules.specs.Attributes.{Attribute, attribute, attributes, long, lengthBytes, encodeOne, encode, readable, communitiesType, otcType}
 use Rattle.rules.specs.Changes.{tag, dropFrom, withValue, newAttribute, rewritten}
 use Rattle.settings.specs.Told.{toldTag, toldOtc}
-use Rattle.attributes.specs.Layout.{layout}
+use Rattle.attributes.specs.Layout.{layout, valueAt}
 use Rattle.attributes.specs.declared.layout.Layout.{Layout}
 use Rattle.communities.specs.Tags.{dropTest, tagBytes}
 use Rattle.rewriting.specs.declared.plan.Plan.{Plan}
@@ -108,6 +108,10 @@ pub record ReadBlock (b : List ℕ) (l : Layout) : Type 0 where
   pub clean : readable b ≡ true
   pub is : l ≡ layout (attributes b)
   pub small : length b ≤ blockMax
+
+-- How many bytes of communities are left in it, by the test of what is dropped.
+abbrev pub LeftIn : List ℕ → Layout → ℕ → ℕ → Type 0
+LeftIn b l test left = left ≡ length (dropFrom (dropTest test) (valueAt (l .communities) b))
 
 -- What the size of a block as it goes out is found from: its communities attribute, k bytes at a place (none where k is 0), and the
 -- bytes of communities left in it.

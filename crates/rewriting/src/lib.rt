@@ -7,15 +7,17 @@ pub mod planner;
 pub mod writer;
 
 use attributes::layout::Layout;
+use attributes::value;
+use communities::left::sift;
 use plan::Output;
 use planner::make_plan;
 use rules::BLOCK_MAX;
 use writer::write;
 ghost use Rattle.rewriting.specs.Plan.{ReadBlock};
-ghost use Rattle.rewriting.specs.Stores.{Rewrites};
+ghost use Rattle.rewriting.specs.Stores.{Rewrites, Counts};
 
-// Stores a block that has been read as it goes out, with the state of a tag (3: none) and the AS of an OTC (0: none), or says
-// that there is no room. Internal.
+// Stores a block that has been read as it goes out, with the state of a tag (3: none) and the AS of an OTC (0: none), and tells how
+// many of its tags are thrown out, found in the walk for the length; or says that there is no room. Internal.
 pub fn store(
     block: &[u8],
     layout: Layout,
@@ -26,9 +28,10 @@ pub fn store(
     out: &mut [u8],
 ) -> Output
     requires { ⌜ ReadBlock (now block) layout ⌝ }
-    ensures { λ r. ⌜ Rewrites test flags tag asn (now (block .entry)) (now (out .entry)) r (now (out .exit)) ⌝ }
+    ensures { λ r. ⌜ (Rewrites test flags tag asn (now (block .entry)) (now (out .entry)) r (now (out .exit))) × (Counts (now (block .entry)) r) ⌝ }
 {
-    let plan = make_plan(block, layout, test, flags, tag, asn);
+    let sifted = sift(test, value(block, layout.communities));
+    let plan = make_plan(block, layout, sifted.left, test, flags, tag, asn);
     let size = plan.size;
     if out.len() < size {
         return Output::Full;
@@ -36,5 +39,8 @@ pub fn store(
     if BLOCK_MAX < size {
         return Output::Full;
     }
-    Output::Bytes(write(block, plan, out))
+    Output::Bytes {
+        length: write(block, plan, out),
+        thrown_out: sifted.thrown_out,
+    }
 }

@@ -17,8 +17,8 @@ pub struct Plan {
     pub otc: u32,
 }
 
-// What storing a block answers: how many bytes were stored, or that there is no room for them.
+// What storing a block answers: how many bytes were stored, and how many tags of the block are thrown out; or that there is no room.
 pub enum Output {
-    Bytes(usize),
+    Bytes { length: usize, thrown_out: usize },
     Full,
 }

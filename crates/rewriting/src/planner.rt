@@ -3,8 +3,6 @@ use super::attribute::community_size;
 use super::plan::Plan;
 use attributes::attribute_size;
 use attributes::layout::Layout;
-use attributes::value;
-use communities::left::left_size;
 use settings::states::INVALID;
 ghost use mathlib.Core.Path.{_≡_};
 ghost use mathlib.Core.Bool.{cond};
@@ -12,7 +10,7 @@ ghost use Prim.Native.Nat.{ℕ, _+_, _≤_};
 ghost use lib.Dec.{ltb};
 ghost use lib.ListN.{length};
 ghost use Rattle.rules.specs.Settings.{blockMax};
-ghost use Rattle.rewriting.specs.Plan.{newTagBytes, newOtcBytes, Planned, ReadBlock, Sizing, TurnedSize};
+ghost use Rattle.rewriting.specs.Plan.{newTagBytes, newOtcBytes, Planned, ReadBlock, LeftIn, Sizing, TurnedSize};
 
 // The sizes of a new tag attribute and of a new OTC.
 const NEW_TAG_SIZE: usize = 11;
@@ -62,15 +60,22 @@ fn turned_size(block: &[u8], at: usize, k: usize, left: usize, state: u8) -> usi
     block.len() - k + size
 }
 
-// The plan for a block that has been read: the test of what is dropped, the flags of new attributes, the state of a tag (3: none)
-// and the AS of an OTC (0: none). Internal.
-pub fn make_plan(block: &[u8], layout: Layout, test: u8, flags: u8, state: u8, asn: u32) -> Plan
-    requires { ⌜ ReadBlock (now block) layout ⌝ }
+// The plan for a block that has been read: how many bytes of its communities are left, the test of what is dropped, the flags of new
+// attributes, the state of a tag (3: none) and the AS of an OTC (0: none). Internal.
+pub fn make_plan(
+    block: &[u8],
+    layout: Layout,
+    left: usize,
+    test: u8,
+    flags: u8,
+    state: u8,
+    asn: u32,
+) -> Plan
+    requires { ⌜ (ReadBlock (now block) layout) × (LeftIn (now block) layout test left) ⌝ }
     ensures { λ r. ⌜ Planned (now (block .entry)) test flags state asn r ⌝ }
 {
     let communities = layout.communities;
     let k = attribute_size(block, communities);
-    let left = left_size(test, value(block, communities));
     let otc = otc_to_add(layout.otc, block.len(), asn);
     let tag_size = new_tag_size(left, state);
     let otc_size = new_otc_size(otc);

@@ -9,11 +9,11 @@ use mathlib.Core.Option.{Option, none, some}
 use lib.Dec.{eqb}
 use lib.ListN.{length, replicate}
 use Rattle.rules.specs.Bytes.{bigEndian, sameBytes}
-use Rattle.rules.specs.Answers.{Answer, done, refused, number, beside, stored}
+use Rattle.rules.specs.Answers.{Answer, done, refused, number, beside, answerNumber, stored}
 use Rattle.rules.specs.Settings.{simpleTagging, invalid}
 use Rattle.rules.specs.Roles.{counterpart, openSession}
 use Rattle.rules.specs.Attributes.{communitiesType}
-use Rattle.rules.specs.Changes.{newAttribute, withTag}
+use Rattle.rules.specs.Changes.{thrownTold, newAttribute, withTag}
 use Rattle.rules.specs.Receipt.{receive}
 use Rattle.rules.specs.Sending.{ownRoute, send}
 use Rattle.rules.specs.Origin.{prefixIn, vrps, stateOver, originState, receivedTag}
@@ -49,6 +49,10 @@ unfoldable pub numbers : {A : Type 0} → (A → List ℕ) → Answer A → List
 numbers result (done a) = 0 ∷ result a
 numbers result (refused r) = refusal r
 
+-- The number of tags thrown out that stands beside an answer to a block (02, Q-8).
+unfoldable pub thrownBeside : {A : Type 0} → Answer A → List ℕ → List ℕ
+thrownBeside a b = orNothing (thrownTold (answerNumber a) b)
+
 unfoldable pub callNumber : Call → ℕ
 callNumber sending = 0
 callNumber receipt = 1
@@ -74,6 +78,8 @@ pub data Case : Type 0 where
   -- receipt and sending: what they are handed, and what their buffer held
   receiving : Session → String → List ℕ → List ℕ → Case
   dispatching : Session → ℕ → ℕ → String → List ℕ → List ℕ → Case
+  -- receipt again: the number of its answer, and that of the tags thrown out
+  handingOn : Session → String → List ℕ → List ℕ → Case
   -- the buffer after the sending of an own route, state unavailable
   leaving : Session → String → List ℕ → List ℕ → Case
   -- the flags of an attribute of so many communities, and its flags once a tag is last in it
@@ -91,7 +97,7 @@ pub data Case : Type 0 where
   inserting : ℕ → String → String → ℕ → List ℕ → Case
   -- a look-up: width, table, prefix length, prefix, origin
   finding : ℕ → String → ℕ → String → ℕ → List ℕ → Case
-  -- the received tag
+  -- the received tag, and the number of tags thrown out
   reading : String → List ℕ → Case
   -- choosing: mode, client, buffer
   choosing : ℕ → ℕ → String → List Offer → List ℕ → Case
@@ -123,6 +129,9 @@ unfoldable pub holds : Case → Bool
 holds (atDesk input output) = sameBytes (desk (text input)) (text output)
 holds (opening role strict s wanted) = sameBytes (numbers (λ r. r ∷ []) (openSession role strict (hex s))) wanted
 holds (receiving s b buffer wanted) = sameBytes (numbers (λ r. r) (receive s (hex b) (length buffer))) wanted
+holds (handingOn s b buffer wanted) =
+    let a = receive s (hex b) (length buffer) in
+    sameBytes (answerNumber a ∷ thrownBeside a (hex b)) wanted
 holds (dispatching s source state b buffer wanted) =
     sameBytes (numbers (λ r. r) (send s source state (hex b) (length buffer))) wanted
 holds (leaving s b buffer wanted) = sameBytes (stored (send s ownRoute 3 (hex b) (length buffer)) buffer) wanted
@@ -139,7 +148,7 @@ holds (inserting w table added lent wanted) =
     sameBytes (numbers (λ r. r ∷ []) (insertRecord w (hex table) (hex added) (replicate (3 * (lent + length (vrps w (hex table)) + 1)) 7))) wanted
 holds (finding w table len prefix asn wanted) =
     sameBytes (numbers (λ (f : Finding). f .state ∷ f .visited ∷ []) (lookUp w (vrps w (hex table)) (bigEndian (hex prefix)) len asn)) wanted
-holds (reading b wanted) = sameBytes (numbers (λ r. r ∷ []) (receivedTag (hex b))) wanted
+holds (reading b wanted) = sameBytes (numbers (λ r. r ∷ []) (receivedTag (hex b)) ++ thrownBeside (receivedTag (hex b)) (hex b)) wanted
 holds (choosing mode client buffer offers wanted) =
     sameBytes (numbers (λ (c : Choice). c .index ∷ c .left ∷ []) (choose mode client (hex buffer) offers)) wanted
 holds (comparing a b wanted) = sameBytes (numbers (λ r. r ∷ []) (better a b) ++ winnersBlock a b (better a b)) wanted

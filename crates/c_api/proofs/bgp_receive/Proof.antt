@@ -1,5 +1,6 @@
 -- `c_api::bgp_receive` meets its contract: what `policy` promises, as numbers.
 use Rattle.rules.specs.Answers.{toldReceived}
+use Rattle.answers.proofs.Numbering.{thrown-number}
 use borrow.Author.Needs.{needs}
 use Rattle.c_api.proofs.bgp_receive.Statement.{statement}
 use Rattle.c_api.proofs.bgp_receive.Tie as tie
@@ -15,12 +16,15 @@ same-length c = search needs
 
 returns : tie.Need-returns
 returns c =
-    record {
-      told = toldReceived (c .before .before .before .before .receive .result);
-      leaves = c .before .before .before .before .receive .ensures;
-      answered = c .report-received .ensures .0;
-      beside = c .report-received .ensures .1;
-    }
+    let v = c .before .before .before .before .before in (
+      record {
+        told = toldReceived (v .receive .result);
+        leaves = v .receive .ensures .0;
+        answered = c .report-received .ensures .0;
+        beside = c .report-received .ensures .1;
+      },
+      thrown-number _ (c .report-received .ensures .0) (v .receive .ensures .1) (c .report-received .ensures .2),
+    )
 
 pub bgp-receive-spec : {M : Type 1} → statement M
 bgp-receive-spec = tie.close (tie.spec receive-requires report-received-requires same-length returns)

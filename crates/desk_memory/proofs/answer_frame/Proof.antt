@@ -1,39 +1,46 @@
 -- `answer_frame` meets its contract, by the kind of the frame.
-use mathlib.Core.Path.{sym, subst}
+use mathlib.Core.Path.{refl, sym, subst}
 use native.Mathlib.Omega.{arith}
 use denote.Ref.{now}
 use borrow.Author.Tests.{not-true, not-false}
 use lib.Seq.{length-take-le}
 use Rattle.rules.specs.Origin.{ipv4, ipv6}
 use Rattle.vrp_tables.specs.Scan.{GoodTable}
-use Rattle.frames.proofs.Framing.{replies-refused}
 use Rattle.desk_memory.proofs.Tabling.{taken-records}
 use Rattle.desk_memory.proofs.ByKind.{ipv4-whole, ipv6-whole, lent-4, lent-6, frame-session, frame-vrp, frame-vrp6, frame-receipt, frame-receipt6, frame-sending, frame-no-session, frame-unknown}
+use Rattle.desk_memory.proofs.Fields.{tells-receipt, tells-receipt6, tells-plain, tells-unreadable}
 use borrow.Author.Needs.{needs}
 use Rattle.desk_memory.proofs.answer_frame.Statement.{statement}
 use Rattle.desk_memory.proofs.answer_frame.Tie as tie
 
 returns : tie.Need-returns
 returns c =
-    let a = c .before .before .before .before .before .before .before .before .before .args in
-    rw (frame-session (a .kept) (now (a .tables)) (now (a .frame)) (c .before .before .before .before .if1 .taken)) (c .before .before .session-frame .ensures)
+    let p = c .before .before .before in
+    let t = p .before .before in
+    let a = t .before .before .before .before .before .args in
+    rw (c .plain .ensures, frame-session (a .kept) (now (a .tables)) (now (a .frame)) (t .if1 .taken)) (tells-plain (now (a .frame)) 1 (t .if1 .taken) refl refl (p .session-frame .ensures))
 
 returns-2 : tie.Need-returns-2
 returns-2 c =
-    let o = c .before .before .before .before .before .before .before .before in
+    let p = c .before in
+    let t = p .before .before in
+    let o = t .before .before .before .before .before .before in
     let a = o .args in
-    rw (frame-vrp (a .kept) (now (a .tables)) (now (a .frame)) (c .before .before .if2 .taken)) (c .vrp-frame .ensures _ (taken-records (o .pre .1 .four)))
+    rw (c .plain2 .ensures, frame-vrp (a .kept) (now (a .tables)) (now (a .frame)) (t .if2 .taken)) (tells-plain (now (a .frame)) 4 (t .if2 .taken) refl refl (p .vrp-frame .ensures _ (taken-records (o .pre .1 .four))))
 
 returns-3 : tie.Need-returns-3
 returns-3 c =
-    let o = c .before .before .before .before .before .before .before .before .before in
+    let p = c .before in
+    let t = p .before .before in
+    let o = t .before .before .before .before .before .before .before in
     let a = o .args in
-    rw (frame-vrp6 (a .kept) (now (a .tables)) (now (a .frame)) (c .before .before .if3 .taken)) (c .vrp-frame2 .ensures _ (taken-records (o .pre .1 .six)))
+    rw (c .plain3 .ensures, frame-vrp6 (a .kept) (now (a .tables)) (now (a .frame)) (t .if3 .taken)) (tells-plain (now (a .frame)) 20 (t .if3 .taken) refl refl (p .vrp-frame2 .ensures _ (taken-records (o .pre .1 .six))))
 
 returns-4 : tie.Need-returns-4
 returns-4 c =
-    let a = c .before .before .before .before .before .before .before .before .before .args in
-    replies-refused _ (frame-no-session (a .kept) (now (a .tables)) (now (a .frame)) (c .before .before .before .before .if1 .left) (c .before .before .before .if2 .left) (c .before .before .if3 .left) (not-true _ (c .if4 .taken)))
+    let t = c .before in
+    let a = t .before .before .before .before .before .before .before .before .before .args in
+    rw (c .unreadable-frame .ensures) (tells-unreadable (now (a .frame)) (frame-no-session (a .kept) (now (a .tables)) (now (a .frame)) (t .before .before .before .before .if1 .left) (t .before .before .before .if2 .left) (t .before .before .if3 .left) (not-true _ (t .if4 .taken))))
 
 slice-aggregate-receipt-frame : tie.Need-slice-aggregate-receipt-frame
 slice-aggregate-receipt-frame c =
@@ -49,7 +56,9 @@ returns-5 : tie.Need-returns-5
 returns-5 c =
     let o = c .before .before .before .before .before .before .before .before .before .before .before .before .before .before .before .before in
     let a = o .args in
-    rw (frame-receipt (a .kept) (now (a .tables)) (now (a .frame)) (not-false _ (c .before .before .before .before .before .before .before .if4 .left)) (c .before .before .before .before .before .if5 .taken), ← lent-4 (o .pre .1)) (c .before .before .receipt-frame .ensures)
+    let e = c .before .before .before .before .before .if5 .taken in
+    rw (frame-receipt (a .kept) (now (a .tables)) (now (a .frame)) (not-false _ (c .before .before .before .before .before .before .before .if4 .left)) e, ← lent-4 (o .pre .1))
+    (tells-receipt (now (a .frame)) e (c .before .before .receipt-frame .ensures))
 
 part-table-end : tie.Need-part-table-end
 part-table-end c =
@@ -65,22 +74,30 @@ returns-6 : tie.Need-returns-6
 returns-6 c =
     let o = c .before .before .before .before .before .before .before .before .before .before .before .before .before .before .before .before .before in
     let a = o .args in
-    rw (frame-receipt6 (a .kept) (now (a .tables)) (now (a .frame)) (not-false _ (c .before .before .before .before .before .before .before .before .if4 .left)) (c .before .before .before .before .before .if6 .taken), ← lent-6 (o .pre .1)) (c .before .before .receipt-frame2 .ensures)
+    let e = c .before .before .before .before .before .if6 .taken in
+    rw (frame-receipt6 (a .kept) (now (a .tables)) (now (a .frame)) (not-false _ (c .before .before .before .before .before .before .before .before .if4 .left)) e, ← lent-6 (o .pre .1))
+    (tells-receipt6 (now (a .frame)) e (c .before .before .receipt-frame2 .ensures))
 
 returns-7 : tie.Need-returns-7
 returns-7 c =
-    let a = c .before .before .before .before .before .before .before .before .before .before .before .before .before .before .before .before .before .args in
-    rw (frame-sending (a .kept) (now (a .tables)) (now (a .frame)) (not-false _ (c .before .before .before .before .before .before .before .before .if4 .left)) (c .before .before .before .before .if7 .taken)) (c .before .before .sending-frame .ensures)
+    let p = c .before .before .before in
+    let t = p .before .before in
+    let l = t .before .before .before .before in
+    let a = l .before .before .before .before .before .before .before .before .before .args in
+    rw (c .plain4 .ensures, frame-sending (a .kept) (now (a .tables)) (now (a .frame)) (not-false _ (l .if4 .left)) (t .if7 .taken)) (tells-plain (now (a .frame)) 3 (t .if7 .taken) refl refl (p .sending-frame .ensures))
 
 returns-8 : tie.Need-returns-8
 returns-8 c =
-    let a = c .before .before .before .before .before .before .before .before .before .before .before .before .before .args in
-    replies-refused _ (frame-unknown (a .kept) (now (a .tables)) (now (a .frame)) (c .before .before .before .before .before .before .before .before .if1 .left) (c .before .before .before .before .before .before .before .if2 .left) (c .before .before .before .before .before .before .if3 .left) (c .before .before .if5 .left) (c .if7 .left) (c .before .if6 .left))
+    let t = c .before in
+    let l = t .before .before .before .before in
+    let a = l .before .before .before .before .before .before .before .before .before .args in
+    rw (c .unreadable-frame2 .ensures) (tells-unreadable (now (a .frame)) (frame-unknown (a .kept) (now (a .tables)) (now (a .frame)) (l .before .before .before .before .if1 .left) (l .before .before .before .if2 .left) (l .before .before .if3 .left) (t .before .before .if5 .left) (t .if7 .left) (t .before .if6 .left)))
 
 pub answer-frame-spec : {M : Type 1} → statement M
 answer-frame-spec =
     tie.close
-    (tie.spec (λ c. search needs) (λ c κs. search needs) (λ c. search needs) returns (λ c κs. search needs) (λ c. search needs) returns-2
-    (λ c κs. search needs) (λ c. search needs) returns-3 returns-4 slice-aggregate-receipt-frame receipt-frame-requires (λ c. search needs)
-    returns-5 (λ c. search needs) (λ c. search needs) (λ c. search needs) part-table-end receipt-frame-requires-2 (λ c. search needs)
-    returns-6 (λ c κs. search needs) (λ c. search needs) returns-7 returns-8)
+    (tie.spec (λ c. search needs) (λ c κs. search needs) (λ c κs. search needs) (λ c. search needs) returns (λ c κs. search needs)
+    (λ c κs. search needs) (λ c. search needs) returns-2 (λ c κs. search needs) (λ c κs. search needs) (λ c. search needs) returns-3
+    (λ c κs. search needs) returns-4 slice-aggregate-receipt-frame receipt-frame-requires (λ c. search needs) returns-5
+    (λ c. search needs) (λ c. search needs) (λ c. search needs) part-table-end receipt-frame-requires-2 (λ c. search needs) returns-6
+    (λ c κs. search needs) (λ c κs. search needs) (λ c. search needs) returns-7 (λ c κs. search needs) returns-8)

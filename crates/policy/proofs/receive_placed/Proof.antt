@@ -2,15 +2,17 @@
 use mathlib.Core.Path.{_≡_, refl, sym, ap, _∙_}
 use mathlib.Core.Bool.{Bool, true, false}
 use mathlib.Core.List.{List}
+use mathlib.Core.Option.{some}
 use Prim.Native.Nat.{ℕ}
 use denote.Ref.{now}
 use lib.Dec.{leb}
 use lib.ListN.{length}
 use borrow.Author.Tests.{not-true, not-false}
-use Rattle.rules.specs.Answers.{Check}
+use Rattle.rules.specs.Bytes.{oneOf, exists}
+use Rattle.rules.specs.Answers.{Check, answerNumber, number}
 use Rattle.rules.specs.Settings.{blockMax, sessionOk}
 use Rattle.rules.specs.Attributes.{Attribute, attributes}
-use Rattle.rules.specs.Changes.{isTag, newFlags, Leaves}
+use Rattle.rules.specs.Changes.{isTag, thrownTold, newFlags, Leaves}
 use Rattle.rules.specs.Receipt.{receiptRules, receiptResult, receiptVerdict}
 use Rattle.rules.specs.declared.Refusal.the-variants.{Ineligible}
 use Rattle.rules.proofs.Checked.{Late}
@@ -20,7 +22,8 @@ use Rattle.attributes.specs.declared.layout.Layout.{Layout}
 use Rattle.rewriting.specs.Plan.{ReadBlock}
 use Rattle.rewriting.specs.Stores.{toldOutput}
 use Rattle.verdicts.specs.Judge.{ruled, judged}
-use Rattle.policy.specs.Placed.{toldPlaced}
+use Rattle.rewriting.proofs.Thrown.{thrown-found}
+use Rattle.policy.specs.Placed.{toldPlaced, thrownPlaced}
 use Rattle.verdicts.proofs.Judging.{receipt-late}
 use Rattle.policy.proofs.Readings.{read-clean, has-found, otc-found}
 use Rattle.policy.proofs.Leaving.{rewritten-same, leaves-setting, leaves-length, leaves-fault, leaves-rule, leaves-output}
@@ -83,36 +86,37 @@ output c =
     let r = passed (o .before) in
     let s = start r in
     leaves-output (ok s) (block s) (rules s) (late s) (result s) (now (s .args .out)) (valid (r .before .before .before .before .before)) (clean r) (λ k. Ineligible k) (q .receipt-rule .result) (found q) (o .before .if3 .left)
-    (rewritten-same isTag (attributes (block s)) (flags-found f) refl (o .received-otc .ensures)) (c .store .ensures)
+    (rewritten-same isTag (attributes (block s)) (flags-found f) refl (o .received-otc .ensures)) (c .store .ensures .0)
 
 returns : tie.Need-returns
-unfolding toldPlaced receiptVerdict
+unfolding toldPlaced thrownPlaced receiptVerdict thrownTold answerNumber number oneOf exists
 returns c =
     let s = c .before .before .before .before in
-    record { got = leaves-setting (ok s) (block s) (rules s) (late s) (result s) (now (s .args .out)) (sym (c .before .session-ok .ensures) ∙ not-true _ (c .if1 .taken)); path = tt }
+    record { got = (leaves-setting (ok s) (block s) (rules s) (late s) (result s) (now (s .args .out)) (sym (c .before .session-ok .ensures) ∙ not-true _ (c .if1 .taken)), refl); path = tt }
 
 returns-2 : tie.Need-returns-2
-unfolding toldPlaced receiptVerdict
+unfolding toldPlaced thrownPlaced receiptVerdict thrownTold answerNumber number oneOf exists
 returns-2 c =
     let e = c .before .before in
     let s = e .before .before .before .before in
-    record { got = leaves-length (ok s) (block s) (rules s) (late s) (result s) (now (s .args .out)) (valid e) (sym (c .before .block-size-ok .ensures) ∙ not-true _ (c .if2 .taken)); path = tt }
+    record { got = (leaves-length (ok s) (block s) (rules s) (late s) (result s) (now (s .args .out)) (valid e) (sym (c .before .block-size-ok .ensures) ∙ not-true _ (c .if2 .taken)), refl); path = tt }
 
 returns-3 : tie.Need-returns-3
-unfolding toldPlaced receiptVerdict
+unfolding toldPlaced thrownPlaced receiptVerdict thrownTold answerNumber number oneOf exists
 returns-3 c =
     let g = c .before .before .before .before in
     let e = g .before .before in
     let s = e .before .before .before .before in
-    record { got = leaves-fault (ok s) (block s) (rules s) (late s) (result s) (now (s .args .out)) (valid e) (small g) (c .before .before .before .read .ensures) (c .before .reading .given .1); path = tt }
+    record { got = (leaves-fault (ok s) (block s) (rules s) (late s) (result s) (now (s .args .out)) (valid e) (small g) (c .before .before .before .read .ensures) (c .before .reading .given .1), refl); path = tt }
 
 returns-4 : tie.Need-returns-4
-unfolding toldPlaced receiptVerdict
+unfolding toldPlaced thrownPlaced receiptVerdict thrownTold answerNumber number oneOf exists
 returns-4 c =
-    let q = c .before in
+    let t = c .before .before in
+    let q = t .before in
     let r = q .before .before .before .before in
     let s = start r in
-    record { got = leaves-rule (ok s) (block s) (rules s) (late s) (result s) (now (s .args .out)) (valid (r .before .before .before .before .before)) (clean r) (λ k. Ineligible k) (q .receipt-rule .result) (found q) (c .if3 .taken); path = tt }
+    record { got = (leaves-rule (ok s) (block s) (rules s) (late s) (result s) (now (s .args .out)) (valid (r .before .before .before .before .before)) (clean r) (λ k. Ineligible k) (q .receipt-rule .result) (found q) (t .if3 .taken), ap some (thrown-found (clean r) (c .before .value2 .ensures) (c .sift .ensures .1))); path = tt }
 
 received-otc-requires : tie.Need-received-otc-requires
 received-otc-requires c κs = valid (passed c .before .before .before .before .before)
@@ -121,19 +125,19 @@ store-requires : tie.Need-store-requires
 store-requires c κs = clean (passed (c .before .before .before))
 
 returns-5 : tie.Need-returns-5
-unfolding toldPlaced toldOutput
-returns-5 c = record { got = rw (c .enum-told .given .1) at (output (c .before .before .before .before)); path = tt }
+unfolding toldPlaced thrownPlaced toldOutput thrownTold answerNumber number oneOf exists
+returns-5 c = record { got = (rw (c .enum-told .given .1) at (output (c .before .before .before .before)), refl); path = tt }
 
 returns-6 : tie.Need-returns-6
-unfolding toldPlaced toldOutput
+unfolding toldPlaced thrownPlaced toldOutput thrownTold answerNumber number oneOf exists
 returns-6 c =
     let m = c .before .before .before .before .before in
     let w = clean (passed (m .before .before .before .before)) in
-    record { got = rw (c .before .output .given .1) at (output m); path = (w .clean, ap (λ (l : Layout). l .«as_path») (w .is)) }
+    record { got = (rw (c .before .output .given .1) at (output m), ap some (rw (c .before .output .given .1) at (m .store .ensures .1))); path = (w .clean, ap (λ (l : Layout). l .«as_path») (w .is)) }
 
 pub receive-placed-spec : {M : Type 1} → statement M
 receive-placed-spec =
     tie.close
     (tie.spec (λ c κs. search needs) returns (λ c κs. search needs) returns-2 (λ c κs. search needs) (λ c. search needs) returns-3
-    (λ c. search needs) (λ c κs. search needs) (λ c κs. search needs) (λ c κs. search needs) returns-4 received-otc-requires (λ c κs. search needs) store-requires
+    (λ c. search needs) (λ c κs. search needs) (λ c κs. search needs) (λ c κs. search needs) (λ c κs. search needs) (λ c κs. search needs) returns-4 received-otc-requires (λ c κs. search needs) store-requires
     (λ c. search needs) (λ c. search needs) (λ c. search needs) returns-5 (λ c. search needs) returns-6)

@@ -79,7 +79,7 @@ output c =
     let r = passed (o .before .before) in
     let s = start r in
     leaves-output (ok s) (block s) (rules s) (late s) (result s) (now (s .args .out)) (valid (r .before .before .before .before .before)) (clean r) (λ k. Withheld k) (q .sending-rule .result) (found q) (o .before .before .if3 .left)
-    (rewritten-same isTag (attributes (block s)) (flags-found f) (o .before .sent-tag .ensures) (o .sent-otc .ensures)) (c .store .ensures)
+    (rewritten-same isTag (attributes (block s)) (flags-found f) (o .before .sent-tag .ensures) (o .sent-otc .ensures)) (c .store .ensures .0)
 
 returns : tie.Need-returns
 unfolding toldAdvertised sendingVerdict

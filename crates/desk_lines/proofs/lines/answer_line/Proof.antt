@@ -8,7 +8,7 @@ use borrow.Author.Tests.{not-true, not-false}
 use denote.Ref.{now}
 use lib.ListN.{length, take}
 use lib.Seq.{length-take-le}
-use Rattle.frames.specs.Replying.{replied}
+use Rattle.frames.specs.Replying.{replied, shownField}
 use Rattle.desk_lines.proofs.Saying.{answered-unreadable, answered-frame, reply-agrees}
 use borrow.Author.Needs.{needs}
 use Rattle.desk_lines.proofs.lines.answer_line.Statement.{statement}
@@ -41,17 +41,20 @@ module _ (c : tie.Else1) where
   frame-some = omega (arith, c .before .before .before .read-line .ensures .some readable, frame-length)
 
 put-line-requires : tie.Need-put-line-requires
-put-line-requires c κs = (tt, omega (arith, start (c .before .before .before .before .before) .pre .2 .within))
+put-line-requires c κs =
+    let p = c .before .before in
+    (rw (p .plain .ensures) tt, omega (arith, start (p .before .before .before .before) .pre .2 .within))
 
 returns : tie.Need-returns
-unfolding replied
+unfolding replied shownField
 returns c =
     let p = c .before .before in
-    let t = p .before .before .before in
+    let u = p .before .before .before in
+    let t = u .before in
     let r = t .before .before .before in
     let b = start r in
     let a = b .args in
-    answered-unreadable (a .state) (now (a .tables)) (now (a .line)) (sym (not-true _ (t .if1 .taken)) ∙ r .read-line .ensures .is) (b .pre .1) (p .put-line .ensures .0) (p .put-line .ensures .1)
+    answered-unreadable (a .state) (now (a .tables)) (now (a .line)) (sym (not-true _ (t .if1 .taken)) ∙ r .read-line .ensures .is) (b .pre .1) (rw (u .plain .ensures) at (p .put-line .ensures .0)) (p .put-line .ensures .1)
 
 slice-reshare-prefix-frame : tie.Need-slice-reshare-prefix-frame
 slice-reshare-prefix-frame c = frame-within c
@@ -68,14 +71,14 @@ answer-frame-requires c κs =
 put-line-requires-2 : tie.Need-put-line-requires-2
 put-line-requires-2 c κs =
     let f = c .before .before .before .before in
-    (f .answer-frame .ensures .within, start (f .before .before .before .before .before .before .before) .pre .2 .within)
+    (f .answer-frame .ensures .replies .within, start (f .before .before .before .before .before .before .before) .pre .2 .within)
 
 keep-frame-requires : tie.Need-keep-frame-requires
 keep-frame-requires c κs =
     let p = c .before .before .before .before in
     let f = p .before .before .before .before .before in
     let e = f .before .before .before .before in
-    (frame-some e, start (e .before .before .before) .pre .1, reply-agrees (f .answer-frame .ensures) (c .before .is-done .ensures))
+    (frame-some e, start (e .before .before .before) .pre .1, reply-agrees (f .answer-frame .ensures .replies) (c .before .is-done .ensures))
 
 returns-2 : tie.Need-returns-2
 returns-2 c =
@@ -90,7 +93,7 @@ returns-2 c =
 pub answer-line-spec : {M : Type 1} → statement M
 answer-line-spec =
     tie.close
-    (tie.spec (λ c. search needs) (λ c κs. search needs) put-line-requires (λ c. search needs) (λ c. search needs)
+    (tie.spec (λ c. search needs) (λ c κs. search needs) (λ c κs. search needs) put-line-requires (λ c. search needs) (λ c. search needs)
     (λ c. search needs) returns slice-reshare-prefix-frame slice-aggregate-frame answer-frame-requires put-line-requires-2
     (λ c κs. search needs) keep-frame-requires (λ c. search needs) (λ c. search needs) (λ c. search needs) (λ c. search needs)
     returns-2)

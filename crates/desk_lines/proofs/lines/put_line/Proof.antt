@@ -3,7 +3,7 @@ use Prim.Native.Nat.{_+_, _≤_}
 use native.Mathlib.Omega.{arith}
 use denote.Ref.{now}
 use lib.ListN.{length}
-use Rattle.frames.specs.Replying.{replied}
+use Rattle.frames.specs.Replying.{replied, shownField}
 use Rattle.text.proofs.Decimals.{decimal-length}
 use Rattle.desk_lines.proofs.Saying.{line-parts}
 use Rattle.octets.proofs.Writing.{stored-then}
@@ -29,27 +29,36 @@ put-reply-requires c κs =
     let d = p .before .before .before .before in
     (start d .pre .0, omega (arith, start d .pre .1, d .put-decimal .kept .1 .0, p .put-byte .kept .1 .0, p .put-byte .ensures .next, number-within d))
 
-put-byte-requires-2 : tie.Need-put-byte-requires-2
-put-byte-requires-2 c κs =
+put-field-requires : tie.Need-put-field-requires
+put-field-requires c κs =
     let r = c .before .before .before in
     let p = r .before .before .before .before in
     let d = p .before .before .before .before in
     omega (arith, start d .pre .1, d .put-decimal .kept .1 .0, p .put-byte .kept .1 .0, r .put-reply .kept .1 .1 .0, p .put-byte .ensures .next, r .put-reply .ensures .1, number-within d)
 
+put-byte-requires-2 : tie.Need-put-byte-requires-2
+put-byte-requires-2 c κs =
+    let f = c .before .before .before in
+    let r = f .before .before .before .before in
+    let p = r .before .before .before .before in
+    let d = p .before .before .before .before in
+    omega (arith, start d .pre .1, d .put-decimal .kept .1 .0, p .put-byte .kept .1 .0, r .put-reply .kept .1 .1 .0, f .put-field .kept .1 .0, p .put-byte .ensures .next, r .put-reply .ensures .1, f .put-field .ensures .1, number-within d)
+
 returns : tie.Need-returns
 returns c =
     let q = c .before .before in
-    let r = q .before .before .before .before in
+    let f = q .before .before .before .before in
+    let r = f .before .before .before .before in
     let p = r .before .before .before .before in
     let d = p .before .before .before .before in
     let b = start d in
     let h : b .args .at ≤ length (now (b .args .out)) = omega (arith, b .pre .1) in (
-      rw (← line-parts (b .args .number) (replied (now (b .args .made)) (b .args .reply)))
-          (stored-then h (stored-then h (stored-then h (d .put-decimal .ensures) (p .put-byte .ensures)) (r .put-reply .ensures .0)) (q .put-byte2 .ensures)),
-      omega (arith, number-within d, p .put-byte .ensures .next, r .put-reply .ensures .1, q .put-byte2 .ensures .next),
+      rw (← line-parts (b .args .number) (replied (now (b .args .made)) (b .args .outcome .reply)) (shownField (b .args .outcome .field)))
+          (stored-then h (stored-then h (stored-then h (stored-then h (d .put-decimal .ensures) (p .put-byte .ensures)) (r .put-reply .ensures .0)) (f .put-field .ensures .0)) (q .put-byte2 .ensures)),
+      omega (arith, number-within d, p .put-byte .ensures .next, r .put-reply .ensures .1, f .put-field .ensures .1, q .put-byte2 .ensures .next),
     )
 
 pub put-line-spec : {M : Type 1} → statement M
 put-line-spec =
     tie.close
-    (tie.spec (λ c κs. search needs) put-byte-requires put-reply-requires put-byte-requires-2 (λ c. search needs) returns)
+    (tie.spec (λ c κs. search needs) put-byte-requires put-reply-requires put-field-requires put-byte-requires-2 (λ c. search needs) returns)
