@@ -9,7 +9,9 @@ usage: bash desk.sh <file      frames from standard input
        bash desk.sh --help     this page
 
 Each line is one frame in hex digits of either case, at most 8,192. Each output line holds
-the line number, the answer and, on answer 0, the result in hex; else "-".
+the line number, the answer and, on answer 0, the result in hex; else "-". A receipt's has
+a fourth field: on answers 0 and 1 how many tags of the block, communities that begin
+43 00, are above 2, and so thrown out; else "-".
 
 Frames (bytes in brackets)
   01  session   local AS [4], remote AS [4], local role [1], strict [1], mode [1],

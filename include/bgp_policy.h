@@ -11,7 +11,7 @@
 #include <stdint.h>
 
 /* The version of this interface; the pkg-config file has it too. */
-#define BGP_POLICY_VERSION "0.5.0"
+#define BGP_POLICY_VERSION "0.6.0"
 
 #ifdef __cplusplus
 extern "C" {
@@ -39,6 +39,11 @@ extern "C" {
  * Of receipt and sending
  * local_as, remote_as   the two AS numbers of the session: not 0, and not equal
  * out, out_len          the output buffer: where it begins, and how many bytes it has; 4,073 is always enough
+ *
+ * Of receipt and received tag
+ * thrown_out            where it goes how many tags of the block have a value above 2: such a tag is erroneous and tells no state
+ *                       (RFC 8097 section 2, which wants it logged). Receipt tells it on answers 0 and 1, the received tag on
+ *                       answer 0; on every other answer it is 0
  *
  * Of receipt, sending, origin state and received tag
  * block, block_len      the attribute block: where it begins, and how many bytes it has, at most 4,073
@@ -75,7 +80,8 @@ extern "C" {
  *
  * Settings of any value, parameters, tables, records and blocks of any bytes and buffers and memories of any length have an
  * answer. But every pointer must be usable (never NULL, also where the length is 0), out must not overlap block, memory must
- * not overlap table or record, and *beside, *left and *visited must lie in none of the bytes handed in or out, nor be the same.
+ * not overlap table or record, and *beside, *thrown_out, *left and *visited must lie in none of the bytes handed in or out, nor
+ * be the same.
  *
  * Answers, and what *beside becomes
  *
@@ -116,8 +122,9 @@ extern "C" {
  *
  * Where several apply, opening gives the first of 5, 6, 8, 4, receipt and sending the first of 5, 6, 3, 1 or 2, 7, origin
  * state the first of 5, 6, 9, 3, choosing the first of 5, 6, 10, 11, and build and insertion the first of 6, 9, 7.
- * Every call sets *beside. Only answer 0 stores anything in out, and then the bytes past the length in *beside stay as
- * they were. Only answer 0 stores anything in memory, but for one exception: a build with answer 7 leaves it all zeros.
+ * Every call sets *beside, and *thrown_out, *left or *visited where it takes one. Only answer 0 stores anything in out, and then
+ * the bytes past the length in *beside stay as they were. Only answer 0 stores anything in memory, but for one exception: a build
+ * with answer 7 leaves it all zeros.
  */
 
 /* Opening: whether the role that the other end names agrees with this end's, and which role it has. */
@@ -127,12 +134,12 @@ uint8_t bgp_open(uint8_t local_role, uint8_t strict,
 
 /*
  * Receipt: what this end keeps of a block that came from the other end. A new OTC begins E0, with the Partial bit (RFC 4271
- * section 5).
+ * section 5). Every tag goes; how many of them were erroneous is told, also of a route that is ineligible.
  */
 uint8_t bgp_receive(uint32_t local_as, uint32_t remote_as, uint8_t local_role, uint8_t mode,
                     const uint8_t *block, size_t block_len,
                     uint8_t *out, size_t out_len,
-                    size_t *beside);
+                    size_t *beside, size_t *thrown_out);
 
 /*
  * Sending: what goes out to the other end. A new OTC, and a new attribute for the tag, begin C0 on an own route, else E0, with
@@ -170,8 +177,8 @@ uint8_t bgp_origin_state6(uint8_t prefix_length, uint64_t prefix_high, uint64_t 
                           const uint8_t *block, size_t block_len,
                           size_t *beside);
 
-/* Received tag: the greatest state, up to 2, that the tags among the block's extended communities tell. */
-uint8_t bgp_received_tag(const uint8_t *block, size_t block_len, size_t *beside);
+/* Received tag: the greatest state, up to 2, that the tags among the block's extended communities tell; how many are above 2. */
+uint8_t bgp_received_tag(const uint8_t *block, size_t block_len, size_t *beside, size_t *thrown_out);
 
 /*
  * Choosing: without blocks that have an OTC, the client's own routes, in modes 0 and 2 invalid routes and in mode 3 all but

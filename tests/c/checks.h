@@ -13,7 +13,7 @@
 
 static uint8_t in[2][TABLE_MAX], kept[2][TABLE_MAX]; /* what is handed in, and a copy */
 static uint8_t out[BLOCK_MAX + 16], after[BLOCK_MAX + 16];
-static size_t beside, left;
+static size_t beside, left; /* `left` also takes the other number that receipt, the tag reader and a look-up tell */
 static unsigned passed, failed;
 
 /* The bytes that hex digits spell go to `to`; gives how many there are. */

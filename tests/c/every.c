@@ -25,13 +25,13 @@ static void opening(const char *name, uint8_t role, uint8_t strict, const char *
     check("bgp_open", name, bgp_open(role, strict, in[0], n, &beside), want, want_beside, UNSET, "");
 }
 
-/* Receipt at AS 64500 from AS 64510; on answer 0 `stored` is the new block, else "". */
+/* Receipt at AS 64500 from AS 64510, with how many tags are thrown out; on answer 0 `stored` is the new block, else "". */
 static void receipt(const char *name, uint8_t role, uint8_t mode, const char *block, size_t room,
-                    unsigned want, size_t want_beside, const char *stored)
+                    unsigned want, size_t want_beside, size_t thrown_out, const char *stored)
 {
     size_t n = hand(0, block);
-    check("bgp_receive", name, bgp_receive(64500, 64510, role, mode, in[0], n, out, room, &beside),
-          want, want_beside, UNSET, stored);
+    check("bgp_receive", name, bgp_receive(64500, 64510, role, mode, in[0], n, out, room, &beside, &left),
+          want, want_beside, thrown_out, stored);
 }
 
 /* Sending by AS 64500 to AS 64510, likewise. */
@@ -68,10 +68,10 @@ static void origin6(const char *name, uint8_t length, const char *digits, const 
           want, want_beside, UNSET, "");
 }
 
-static void tag(const char *name, const char *block, unsigned want, size_t want_beside)
+static void tag(const char *name, const char *block, unsigned want, size_t want_beside, size_t thrown_out)
 {
     size_t n = hand(0, block);
-    check("bgp_received_tag", name, bgp_received_tag(in[0], n, &beside), want, want_beside, UNSET, "");
+    check("bgp_received_tag", name, bgp_received_tag(in[0], n, &beside, &left), want, want_beside, thrown_out, "");
 }
 
 /* Choosing among candidates with the blocks PATH (at 0), OWN (at 13) and OWN with an OTC (at 20), 34 bytes in all. */
@@ -108,19 +108,23 @@ int main(void)
     opening("local role 5", 5, 1, "0203090104", 5, 0);
     opening("a parameter of type 1", 4, 1, "0103090104", 8, 0);
 
-    receipt("P2, from a Peer", 4, 1, PATH, BLOCK_MAX, 0, 20, PATH PARTIAL_OTC "0000FBFE");
-    receipt("P2, just room", 4, 1, PATH, 20, 0, 20, PATH PARTIAL_OTC "0000FBFE");
-    receipt("P2, a byte too little", 4, 1, PATH, 19, 7, 0, "");
-    receipt("P3, a Peer's OTC of another AS", 4, 1, PATH OTC "0000FBF5", BLOCK_MAX, 1, 2, "");
-    receipt("an OTC from a Customer", 0, 1, PATH OTC "0000FBFE", BLOCK_MAX, 1, 1, "");
-    receipt("a Peer's OTC of its own AS", 4, 1, PATH OTC "0000FBFE", BLOCK_MAX, 0, 20, PATH OTC "0000FBFE");
-    receipt("tags 0 and 7 go", 0, 1, OWN "C01010" TAG "00" TAG "07", BLOCK_MAX, 0, 7, OWN);
+    receipt("P2, from a Peer", 4, 1, PATH, BLOCK_MAX, 0, 20, 0, PATH PARTIAL_OTC "0000FBFE");
+    receipt("P2, just room", 4, 1, PATH, 20, 0, 20, 0, PATH PARTIAL_OTC "0000FBFE");
+    receipt("P2, a byte too little", 4, 1, PATH, 19, 7, 0, 0, "");
+    receipt("P3, a Peer's OTC of another AS", 4, 1, PATH OTC "0000FBF5", BLOCK_MAX, 1, 2, 0, "");
+    receipt("an OTC from a Customer", 0, 1, PATH OTC "0000FBFE", BLOCK_MAX, 1, 1, 0, "");
+    receipt("a Peer's OTC of its own AS", 4, 1, PATH OTC "0000FBFE", BLOCK_MAX, 0, 20, 0, PATH OTC "0000FBFE");
+    receipt("tags 0 and 7 go", 0, 1, OWN "C01010" TAG "00" TAG "07", BLOCK_MAX, 0, 7, 1, OWN);
     block = filled(FULL, 4073);
-    receipt("4,073 bytes from a Customer", 0, 1, block, BLOCK_MAX, 0, 4073, block);
-    receipt("4,073 bytes and an OTC", 4, 1, block, sizeof out, 7, 0, "");
-    receipt("4,074 bytes", 0, 1, filled(OVER, 4074), sizeof out, 6, 0, "");
-    receipt("no ORIGIN", 4, 1, "400200", BLOCK_MAX, 3, 3, "");
-    receipt("mode 4", 4, 4, PATH, BLOCK_MAX, 5, 0, "");
+    receipt("4,073 bytes from a Customer", 0, 1, block, BLOCK_MAX, 0, 4073, 0, block);
+    receipt("4,073 bytes and an OTC", 4, 1, block, sizeof out, 7, 0, 0, "");
+    receipt("4,074 bytes", 0, 1, filled(OVER, 4074), sizeof out, 6, 0, 0, "");
+    receipt("an OTC, and tags 3, 2 and 255", 0, 1, OWN OTC "0000FBFE" "C01018" TAG "03" TAG "02" TAG "FF", BLOCK_MAX, 1, 1, 2, "");
+    receipt("tags 7 and 7, a byte too little", 4, 1, OWN "C01010" TAG "07" TAG "07", 13, 7, 0, 0, "");
+    receipt("tags 7 and 7, and a community that is no tag", 0, 1, OWN "C01018" TAG "07" OTHER TAG "07", BLOCK_MAX, 0, 18, 2,
+            OWN "C01008" OTHER);
+    receipt("no ORIGIN", 4, 1, "400200", BLOCK_MAX, 3, 3, 0, "");
+    receipt("mode 4", 4, 4, PATH, BLOCK_MAX, 5, 0, 0, "");
 
     sending("P4, an own route to a Peer", 4, 1, 255, 3, OWN, BLOCK_MAX, 0, 14, OWN OTC "0000FBF4");
     sending("P4, a byte too little", 4, 1, 255, 3, OWN, 13, 7, 0, "");
@@ -178,11 +182,12 @@ int main(void)
     origin6("prefix length 129", 129, mapped, vrp6, BY_64500, 5, 0);
     origin6("no AS_PATH", 48, mapped, vrp6, "40010100", 3, 4);
 
-    tag("P10, tags 0 and 7", OWN "C01010" TAG "00" TAG "07", 0, 0);
-    tag("tags 2 and 1", OWN "C01010" TAG "02" TAG "01", 0, 2);
-    tag("no tag", OWN, 0, 3);
-    tag("communities of 0 bytes", OWN "C01000", 3, 6);
-    tag("4,074 bytes", filled(OVER, 4074), 6, 0);
+    tag("P10, tags 0 and 7", OWN "C01010" TAG "00" TAG "07", 0, 0, 1);
+    tag("tags 2 and 1", OWN "C01010" TAG "02" TAG "01", 0, 2, 0);
+    tag("tags 3, 2 and 255", OWN "C01018" TAG "03" TAG "02" TAG "FF", 0, 2, 2);
+    tag("no tag", OWN, 0, 3, 0);
+    tag("communities of 0 bytes", OWN "C01000", 3, 6, 0);
+    tag("4,074 bytes", filled(OVER, 4074), 6, 0, 0);
 
     choosing("the shortest path", 1, 9, text(path, own, 1, with_otc), 0, 1, 2);
     choosing("mode 2 removes the invalid", 2, 9, text(path, own, 1, with_otc), 0, 0, 1);

@@ -1,7 +1,7 @@
 //! Chains of hops, each a sending and then a receipt on one session: run through an implementation, and seeded.
 use crate::counterpart;
 use crate::generate::{attributes, block, encode, filled, Random, ASNS};
-use crate::sides::{Side, Stored};
+use crate::sides::{unnumbered, Side, Stored};
 use bgp_policy::{Session, BLOCK_MAX, OWN_ROUTE};
 
 /// A hop: the session as each of its ends sees it, and the state that the sending is handed.
@@ -58,7 +58,7 @@ pub fn run(
                 Some(None) => return calls,
             };
             let call = Stored::by(&buffer(), |out| match receipt {
-                false => (side.send)(hop.sending, source, hop.state, block, out),
+                false => unnumbered((side.send)(hop.sending, source, hop.state, block, out)),
                 true => (side.receive)(hop.receiving, block, out),
             });
             calls.push(call);

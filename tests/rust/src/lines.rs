@@ -9,7 +9,7 @@ pub type Compared = Result<(), String>;
 
 /// The folder of the vectors of all functions but the index.
 pub fn folder() -> PathBuf {
-    Path::new(env!("CARGO_MANIFEST_DIR")).join("../vectors/Q-09")
+    Path::new(env!("CARGO_MANIFEST_DIR")).join("../vectors/Q-08")
 }
 
 /// The folder of the vectors of the index.
@@ -92,11 +92,17 @@ pub fn bytes(field: &str) -> Vec<u8> {
     }
 }
 
-/// One call in each of two buffers of `cap` bytes, against the three fields after `=>`: answer, number beside it, block stored.
-pub fn call(cap: &str, expected: &[&str], run: impl Fn(&mut [u8]) -> (u8, usize)) -> Compared {
-    let &[answer, beside, stored] = expected else {
+/// One call in each of two buffers of `cap` bytes, against the fields after `=>`: answer, number beside it, block stored, and of a receipt
+/// the number of tags thrown out, for which a call tells 0 where there is none.
+pub fn call(
+    cap: &str,
+    expected: &[&str],
+    run: impl Fn(&mut [u8]) -> (u8, usize, usize),
+) -> Compared {
+    let &[answer, beside, stored, ref thrown_out @ ..] = expected else {
         panic!("{} fields after =>", expected.len());
     };
+    let thrown_out = numbered(thrown_out);
     let answer: u8 = number(answer);
     let stored = (answer == 0).then(|| bytes(stored));
     // On answer 0 the written length stands beside it, on a refusal the vector's number or, where it has none, 0.
@@ -107,8 +113,9 @@ pub fn call(cap: &str, expected: &[&str], run: impl Fn(&mut [u8]) -> (u8, usize)
     for before in patterns(optional(cap).unwrap_or(BLOCK_MAX)) {
         let mut out = before.clone();
         let got = run(&mut out);
-        if got != (answer, beside) {
-            return Err(format!("answered {got:?}, expected {:?}", (answer, beside)));
+        let wanted = (answer, beside, thrown_out);
+        if got != wanted {
+            return Err(format!("answered {got:?}, expected {wanted:?}"));
         }
         let after = expected_buffer(&before, stored.as_deref());
         if out != after {
@@ -119,6 +126,27 @@ pub fn call(cap: &str, expected: &[&str], run: impl Fn(&mut [u8]) -> (u8, usize)
                 shown(&after[at..])
             ));
         }
+    }
+    Ok(())
+}
+
+// The number of tags thrown out, in the last field if there is one.
+fn numbered(fields: &[&str]) -> usize {
+    match fields {
+        [] => 0,
+        [thrown_out] => optional(thrown_out).unwrap_or(0),
+        _ => panic!("{} fields past the result", fields.len()),
+    }
+}
+
+/// A call that tells a state and a number of tags thrown out, against the four fields after `=>`: answer, number beside it, state, number.
+pub fn told_numbered(expected: &[&str], got: (u8, usize, usize)) -> Compared {
+    let (answer, beside, thrown_out) = got;
+    let (told_fields, last) = expected.split_at(3);
+    told(told_fields, (answer, beside))?;
+    let wanted = numbered(last);
+    if thrown_out != wanted {
+        return Err(format!("{thrown_out} thrown out, expected {wanted}"));
     }
     Ok(())
 }

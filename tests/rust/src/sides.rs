@@ -8,11 +8,11 @@ use std::fmt::{Debug, Formatter};
 pub struct Side {
     pub name: &'static str,
     pub open: fn(u8, u8, &[u8]) -> (u8, usize),
-    pub receive: fn(Session, &[u8], &mut [u8]) -> (u8, usize),
+    pub receive: fn(Session, &[u8], &mut [u8]) -> (u8, usize, usize),
     pub send: fn(Session, u8, u8, &[u8], &mut [u8]) -> (u8, usize),
     pub origin_state: fn(u8, u32, u32, &[u8], &[u8]) -> (u8, usize),
     pub origin_state6: fn(u8, u128, u32, &[u8], &[u8]) -> (u8, usize),
-    pub received_tag: fn(&[u8]) -> (u8, usize),
+    pub received_tag: fn(&[u8]) -> (u8, usize, usize),
     pub choose: fn(u8, u32, &[u8], &[u8]) -> (u8, usize, usize),
     pub better: fn(Candidate, Candidate) -> (u8, usize),
 }
@@ -43,19 +43,29 @@ pub const FAST: Side = side!("fast Rust", fast);
 
 pub const SIDES: [Side; 3] = [LIBRARY, REFERENCE, FAST];
 
-/// What a call tells, and the whole buffer that it leaves.
+/// What a call tells, the number of tags thrown out with it, and the whole buffer that it leaves.
 #[derive(PartialEq)]
 pub struct Stored {
     pub told: (u8, usize),
+    pub thrown_out: usize,
     pub buffer: Vec<u8>,
+}
+
+/// What sending tells, in the form of receipt: no tags are thrown out.
+pub fn unnumbered((answer, beside): (u8, usize)) -> (u8, usize, usize) {
+    (answer, beside, 0)
 }
 
 impl Stored {
     /// A call with a buffer that held `before`.
-    pub fn by(before: &[u8], call: impl FnOnce(&mut [u8]) -> (u8, usize)) -> Self {
+    pub fn by(before: &[u8], call: impl FnOnce(&mut [u8]) -> (u8, usize, usize)) -> Self {
         let mut buffer = before.to_vec();
-        let told = call(&mut buffer);
-        Stored { told, buffer }
+        let (answer, beside, thrown_out) = call(&mut buffer);
+        Stored {
+            told: (answer, beside),
+            thrown_out,
+            buffer,
+        }
     }
 
     /// The block stored; none unless the answer is 0.
@@ -67,7 +77,13 @@ impl Stored {
 
 impl Debug for Stored {
     fn fmt(&self, f: &mut Formatter) -> std::fmt::Result {
-        write!(f, "{:?} with the buffer {}", self.told, shown(&self.buffer))
+        write!(
+            f,
+            "{:?}, {} thrown out, with the buffer {}",
+            self.told,
+            self.thrown_out,
+            shown(&self.buffer)
+        )
     }
 }
 

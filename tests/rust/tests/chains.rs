@@ -5,7 +5,7 @@ use policy_tests::chain::{end, garbage, hops, originated, roles, run, End, Hop};
 use policy_tests::generate::{attributes, filled, Random};
 use policy_tests::reference::{read, Attribute};
 use policy_tests::shown;
-use policy_tests::sides::{agree, Side, LIBRARY};
+use policy_tests::sides::{agree, unnumbered, Side, LIBRARY};
 use policy_tests::tables::Tally;
 use std::collections::BTreeSet;
 
@@ -189,6 +189,10 @@ fn copies(_: Session, block: &[u8], out: &mut [u8]) -> (u8, usize) {
     (0, block.len())
 }
 
+fn receives_copies(session: Session, block: &[u8], out: &mut [u8]) -> (u8, usize, usize) {
+    unnumbered(copies(session, block, out))
+}
+
 fn sends_copies(session: Session, _: u8, _: u8, block: &[u8], out: &mut [u8]) -> (u8, usize) {
     copies(session, block, out)
 }
@@ -230,7 +234,7 @@ fn wrong_functions_are_found() {
         sends_by_default,
     ];
     let wrong_sends = sends.map(|send| Side { send, ..LIBRARY });
-    let receive = copies;
+    let receive = receives_copies;
     for side in wrong_sends.into_iter().chain([Side { receive, ..LIBRARY }]) {
         let found = (0..200).any(|seed| {
             let mut random = Random(seed);

@@ -4,7 +4,7 @@ use policy_tests::generate::{
     attributes, block, block_of_length, communities, damaged, encode, faulty_block, Attribute,
     Random, ASNS,
 };
-use policy_tests::sides::{agree, Side, Stored, LIBRARY};
+use policy_tests::sides::{agree, unnumbered, Side, Stored, LIBRARY};
 use policy_tests::tables::Tally;
 use policy_tests::{patterns, shown};
 
@@ -18,10 +18,12 @@ enum Call {
 }
 
 impl Call {
-    fn at(self, side: &Side, block: &[u8], out: &mut [u8]) -> (u8, usize) {
+    fn at(self, side: &Side, block: &[u8], out: &mut [u8]) -> (u8, usize, usize) {
         match self {
             Call::Receive(session) => (side.receive)(session, block, out),
-            Call::Send(session, source, state) => (side.send)(session, source, state, block, out),
+            Call::Send(session, source, state) => {
+                unnumbered((side.send)(session, source, state, block, out))
+            }
         }
     }
 }
@@ -172,7 +174,7 @@ fn a_sent_block_is_received_alike() {
     for _ in 0..ROUNDS {
         let (call, block) = (sending(&mut random), block(&mut random));
         let mut sent = vec![0; BLOCK_MAX];
-        let (0, length) = call.at(&LIBRARY, &block, &mut sent) else {
+        let (0, length, _) = call.at(&LIBRARY, &block, &mut sent) else {
             continue;
         };
         let call = receipt(&mut random);

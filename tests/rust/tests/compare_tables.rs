@@ -50,13 +50,19 @@ fn opening_agrees() {
 #[test]
 fn received_tag_agrees() {
     let (mut random, mut tally) = (Random(13), Tally::default());
+    // how many tags are thrown out, three standing for more
+    let mut numbers = Tally::default();
     for _ in 0..ROUNDS {
         let block = some_block(&mut random);
-        let (answer, beside) = agree(|side| (side.received_tag)(&block), || shown(&block));
+        let told = agree(|side| (side.received_tag)(&block), || shown(&block));
+        let (answer, beside, thrown_out) = told;
         tally.add(answer, beside);
+        numbers.add(answer, thrown_out.min(3));
     }
     let expected = [(0, 0), (0, 1), (0, 2), (0, 3), (6, 0)];
     tally.check("received_tag", &[&expected[..], &FAULTS].concat());
+    let expected = [(0, 0), (0, 1), (0, 2), (0, 3), (3, 0), (6, 0)];
+    numbers.check("tags thrown out", &expected);
 }
 
 // Blocks one after the other in a buffer, and candidates that point at them; one in `bad_in` of these is likely bad.

@@ -32,7 +32,7 @@ fn p6_to_p9() {
 #[test]
 fn p10() {
     let block = hex("40010100400200C0101043000000000000004300000000000007");
-    assert_eq!(received_tag(&block), (0, VALID));
+    assert_eq!(received_tag(&block), (0, VALID, 1));
 }
 
 #[test]
@@ -86,8 +86,8 @@ fn blocks_of_4073_and_4074() {
         origin_state(32, 0, OWN_AS, &[], &block_of(BLOCK_MAX + 1)),
         (6, 0)
     );
-    assert_eq!(received_tag(&block_of(BLOCK_MAX)), (0, UNAVAILABLE));
-    assert_eq!(received_tag(&block_of(BLOCK_MAX + 1)), (6, 0));
+    assert_eq!(received_tag(&block_of(BLOCK_MAX)), (0, UNAVAILABLE, 0));
+    assert_eq!(received_tag(&block_of(BLOCK_MAX + 1)), (6, 0, 0));
 }
 
 #[test]
@@ -115,11 +115,12 @@ fn tags() {
         }
         received_tag(&block)
     };
-    assert_eq!(tagged(&[1]), (0, NOT_FOUND));
-    assert_eq!(tagged(&[0, 2, 1]), (0, INVALID));
-    assert_eq!(tagged(&[3, 255]), (0, UNAVAILABLE));
+    assert_eq!(tagged(&[1]), (0, NOT_FOUND, 0));
+    assert_eq!(tagged(&[0, 2, 1]), (0, INVALID, 0));
+    assert_eq!(tagged(&[3, 255]), (0, UNAVAILABLE, 2));
+    assert_eq!(tagged(&[7, 1, 7]), (0, NOT_FOUND, 2));
     // no tag: another subtype, another type
     let other = hex("40010100400200C0101043010000000000010300000000000001");
-    assert_eq!(received_tag(&other), (0, UNAVAILABLE));
-    assert_eq!(received_tag(&hex("40010100")), (3, 4));
+    assert_eq!(received_tag(&other), (0, UNAVAILABLE, 0));
+    assert_eq!(received_tag(&hex("40010100")), (3, 4, 0));
 }

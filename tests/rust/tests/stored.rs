@@ -1,5 +1,5 @@
 //! The cases that documents 01 and 02 name, run at the functions with the results stored here.
-use bgp_policy::{receive, send, Session, BLOCK_MAX, OWN_ROUTE};
+use bgp_policy::{send, Session, BLOCK_MAX, OWN_ROUTE};
 use policy_tests::{block_of, expected_buffer, hex, patterns, shown};
 
 const PROVIDER: u8 = 0;
@@ -15,6 +15,13 @@ fn session(local_role: u8) -> Session {
         local_role,
         mode: 1,
     }
+}
+
+// Receipt of a block without a tag, of which none is thrown out.
+fn receive(session: Session, block: &[u8], out: &mut [u8]) -> (u8, usize) {
+    let (answer, beside, thrown_out) = bgp_policy::receive(session, block, out);
+    assert_eq!(thrown_out, 0);
+    (answer, beside)
 }
 
 // A call in buffers of `cap` bytes answers 0 and stores exactly `block`.

@@ -1,9 +1,10 @@
-//! Every line of ../vectors/Q-09 but the desk's, through the library, the reference and fast Rust: the answer, the number beside it,
+//! Every line of ../vectors/Q-08 but the desk's, through the library, the reference and fast Rust: the answer, the number beside it,
 //! and the output buffer to its end.
 use bgp_policy::{table, Candidate, Offer, Session, BLOCK_MAX};
 use policy_tests::chain::{end, run, End, Hop};
-use policy_tests::lines::{all_run, bytes, call, every, number, optional, told, Compared};
-use policy_tests::sides::Side;
+use policy_tests::lines::{all_run, bytes, call, every, number, optional};
+use policy_tests::lines::{told, told_numbered, Compared};
+use policy_tests::sides::{unnumbered, Side};
 use policy_tests::{counterpart, patterns};
 
 // open: local role, strict, parameters; result: remote role
@@ -37,15 +38,15 @@ fn state6_line(side: &Side, fields: &[&str]) -> Compared {
     told(&fields[6..], got)
 }
 
-// tag: block; result: state
+// tag: block; result: state, how many tags are thrown out
 fn tag_line(side: &Side, fields: &[&str]) -> Compared {
     let &[block, "=>", ..] = fields else {
         panic!("not the fields of tag: {fields:?}");
     };
-    told(&fields[2..], (side.received_tag)(&bytes(block)))
+    told_numbered(&fields[2..], (side.received_tag)(&bytes(block)))
 }
 
-// recv: local AS, remote AS, remote role, cap, block
+// recv: local AS, remote AS, remote role, cap, block; result: block, how many tags are thrown out
 fn recv_line(side: &Side, fields: &[&str]) -> Compared {
     let &[local_as, remote_as, remote_role, cap, block, "=>", ..] = fields else {
         panic!("not the fields of recv: {fields:?}");
@@ -76,7 +77,7 @@ fn send_line(side: &Side, fields: &[&str]) -> Compared {
     };
     let (source, state, block) = (number(source), number(state), bytes(block));
     call(cap, &fields[9..], |out| {
-        (side.send)(session, source, state, &block, out)
+        unnumbered((side.send)(session, source, state, &block, out))
     })
 }
 

@@ -71,9 +71,10 @@ pub fn open(local_role: u8, strict: u8, parameters: &[u8]) -> (u8, usize) {
     (answer, beside)
 }
 
-/// Receipt of a block: the answer number and the number beside it (the written length on answer 0).
-pub fn receive(session: Session, block: &[u8], out: &mut [u8]) -> (u8, usize) {
-    let mut beside = UNSET;
+/// Receipt of a block: the answer number, the number beside it (the written length on answer 0), and how many tags of the block have a
+/// value above 2, for the log that RFC 8097 asks for (0 on answers other than 0 and 1).
+pub fn receive(session: Session, block: &[u8], out: &mut [u8]) -> (u8, usize, usize) {
+    let (mut beside, mut thrown_out) = (UNSET, UNSET);
     // Safe: the pointers and lengths are those of slices, and `out`, being `&mut`, overlaps nothing.
     let answer = unsafe {
         raw::bgp_receive(
@@ -86,9 +87,10 @@ pub fn receive(session: Session, block: &[u8], out: &mut [u8]) -> (u8, usize) {
             out.as_mut_ptr(),
             out.len(),
             &mut beside,
+            &mut thrown_out,
         )
     };
-    (answer, beside)
+    (answer, beside, thrown_out)
 }
 
 /// Sending of a block: the answer number and the number beside it (the written length on answer 0).
@@ -165,12 +167,20 @@ pub fn origin_state6(
     (answer, beside)
 }
 
-/// The state that the tags received in a block tell: the answer number and the number beside it (the state on answer 0).
-pub fn received_tag(block: &[u8]) -> (u8, usize) {
-    let mut beside = UNSET;
-    // Safe: as in `open`.
-    let answer = unsafe { raw::bgp_received_tag(block.as_ptr(), block.len(), &mut beside) };
-    (answer, beside)
+/// The state that the tags received in a block tell: the answer number, the number beside it (the state on answer 0), and how many of
+/// the tags have a value above 2 (0 on a refusal).
+pub fn received_tag(block: &[u8]) -> (u8, usize, usize) {
+    let (mut beside, mut thrown_out) = (UNSET, UNSET);
+    // Safe: as in `open`; `thrown_out` lies outside the slice too.
+    let answer = unsafe {
+        raw::bgp_received_tag(
+            block.as_ptr(),
+            block.len(),
+            &mut beside,
+            &mut thrown_out,
+        )
+    };
+    (answer, beside, thrown_out)
 }
 
 /// The route for a client: the answer number, the number beside it (the index on answer 0), and how many were left.

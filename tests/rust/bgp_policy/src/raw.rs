@@ -19,6 +19,7 @@ extern "C" {
         out: *mut u8,
         out_len: usize,
         beside: *mut usize,
+        thrown_out: *mut usize,
     ) -> u8;
 
     pub fn bgp_send(
@@ -58,7 +59,12 @@ extern "C" {
         beside: *mut usize,
     ) -> u8;
 
-    pub fn bgp_received_tag(block: *const u8, block_len: usize, beside: *mut usize) -> u8;
+    pub fn bgp_received_tag(
+        block: *const u8,
+        block_len: usize,
+        beside: *mut usize,
+        thrown_out: *mut usize,
+    ) -> u8;
 
     pub fn bgp_choose(
         mode: u8,

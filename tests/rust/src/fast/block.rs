@@ -1,5 +1,5 @@
 //! Reading of an attribute block: its faults 1 to 6, and the parts that the policy looks at.
-use super::number;
+use super::{number, INVALID};
 
 const EXTENDED_LENGTH: u8 = 0x10;
 const ORIGIN: u8 = 1;
@@ -53,6 +53,11 @@ impl Communities<'_> {
 /// Whether a community is a validation state tag.
 pub fn is_tag(community: &[u8]) -> bool {
     community.starts_with(&[0x43, 0x00])
+}
+
+/// Whether a tag tells no state and is thrown out.
+pub fn is_erroneous(tag: &[u8]) -> bool {
+    tag[7] > INVALID
 }
 
 impl<'a> Block<'a> {

@@ -4,8 +4,8 @@ use super::hex::{decode, encode, MAX_DIGITS};
 use super::opening::open;
 use super::origin::{is_vrp, validate, Bits, Prefix};
 use super::passing::{is_session, receive_read, send};
-use super::{number, BAD_SETTING, BAD_VRP, DONE, MALFORMED, TOO_LONG, UNREADABLE};
-use super::{MAX_BLOCK, MAX_VRPS};
+use super::{number, Answer, Numbered, MAX_BLOCK, MAX_VRPS};
+use super::{BAD_SETTING, BAD_VRP, DONE, LEAK, MALFORMED, TOO_LONG, UNREADABLE};
 use bgp_policy::Session;
 use std::io::Write;
 
@@ -27,6 +27,13 @@ struct Memory {
     vrps6: Vec<u8>,
     /// The result of the last frame: a receipt's state, then its block.
     result: [u8; 1 + MAX_BLOCK],
+}
+
+/// The fourth field of a line that goes out.
+enum Field {
+    Number(usize),
+    Dash,
+    Absent,
 }
 
 /// The whole output for a whole input.
@@ -95,9 +102,9 @@ impl Desk {
 
     fn answer(&mut self, line: &[u8], out: &mut Vec<u8>) {
         self.lines += 1;
-        let (answer, length) = match decode(line, &mut self.frame) {
+        let ((answer, length), field) = match decode(line, &mut self.frame) {
             true => self.memory.frame(&self.frame),
-            false => (UNREADABLE, 0),
+            false => ((UNREADABLE, 0), Field::Absent),
         };
         write!(out, "{} {answer} ", self.lines).expect("a vector takes every byte");
         if length == 0 {
@@ -105,30 +112,46 @@ impl Desk {
         } else {
             encode(&self.memory.result[..length], out);
         }
+        match field {
+            Field::Number(number) => write!(out, " {number}").expect("a vector takes every byte"),
+            Field::Dash => out.extend(b" -"),
+            Field::Absent => {}
+        }
         out.push(b'\n');
     }
 }
 
 impl Memory {
-    /// The answer to a frame of at least one byte, and the length of its result.
-    fn frame(&mut self, frame: &[u8]) -> (u8, usize) {
+    /// The answer to a frame of at least one byte, the length of its result, and the line's fourth field.
+    fn frame(&mut self, frame: &[u8]) -> (Answer, Field) {
         let rest = &frame[1..];
-        let told = match frame[0] {
-            0x01 => self.open(rest),
-            0x02 => receive::<u32>(self.session, &self.vrps, rest, &mut self.result),
-            0x03 => self.send(rest),
-            0x04 => add_vrp::<u32>(&mut self.vrps, rest),
-            0x12 => receive::<u128>(self.session, &self.vrps6, rest, &mut self.result),
-            0x14 => add_vrp::<u128>(&mut self.vrps6, rest),
-            _ => (UNREADABLE, 0),
+        let plain = |told| (told, Field::Absent);
+        let (told, field) = match frame[0] {
+            0x01 => plain(self.open(rest)),
+            0x02 => numbered(receive::<u32>(
+                self.session,
+                &self.vrps,
+                rest,
+                &mut self.result,
+            )),
+            0x03 => plain(self.send(rest)),
+            0x04 => plain(add_vrp::<u32>(&mut self.vrps, rest)),
+            0x12 => numbered(receive::<u128>(
+                self.session,
+                &self.vrps6,
+                rest,
+                &mut self.result,
+            )),
+            0x14 => plain(add_vrp::<u128>(&mut self.vrps6, rest)),
+            _ => plain((UNREADABLE, 0)),
         };
         match told {
-            (DONE, length) => (DONE, length),
-            (refusal, _) => (refusal, 0),
+            (DONE, length) => ((DONE, length), field),
+            (refusal, _) => ((refusal, 0), field),
         }
     }
 
-    fn open(&mut self, frame: &[u8]) -> (u8, usize) {
+    fn open(&mut self, frame: &[u8]) -> Answer {
         self.session = None;
         if frame.len() < 11 {
             return (UNREADABLE, 0);
@@ -151,7 +174,7 @@ impl Memory {
         (answer, 1)
     }
 
-    fn send(&mut self, frame: &[u8]) -> (u8, usize) {
+    fn send(&mut self, frame: &[u8]) -> Answer {
         match (self.session, frame) {
             (Some(session), &[source, state, ref block @ ..]) => {
                 send(session, source, state, block, &mut self.result)
@@ -161,15 +184,24 @@ impl Memory {
     }
 }
 
+/// What a receipt tells: the number of tags thrown out is shown on answers 0 and 1.
+fn numbered((answer, length, thrown_out): Numbered) -> (Answer, Field) {
+    let field = match answer {
+        DONE | LEAK => Field::Number(thrown_out),
+        _ => Field::Dash,
+    };
+    ((answer, length), field)
+}
+
 /// A receipt on a session, if there is one, with the VRPs of the route's family.
 fn receive<B: Bits>(
     session: Option<Session>,
     vrps: &[u8],
     frame: &[u8],
     result: &mut [u8],
-) -> (u8, usize) {
+) -> Numbered {
     let (Some(session), true) = (session, frame.len() > B::SIZE) else {
-        return (UNREADABLE, 0);
+        return (UNREADABLE, 0, 0);
     };
     let (route, block) = frame.split_at(1 + B::SIZE);
     let prefix = Prefix {
@@ -177,24 +209,24 @@ fn receive<B: Bits>(
         bits: B::read(&route[1..]),
     };
     if prefix.length > B::WIDTH {
-        return (BAD_SETTING, 0);
+        return (BAD_SETTING, 0, 0);
     }
     if block.len() > MAX_BLOCK {
-        return (TOO_LONG, 0);
+        return (TOO_LONG, 0, 0);
     }
     let block = match Block::read(block) {
         Ok(block) => block,
-        Err(fault) => return (MALFORMED, fault),
+        Err(fault) => return (MALFORMED, fault, 0),
     };
-    let (answer, length) = receive_read(&session, &block, &mut result[1..]);
+    let (answer, length, thrown_out) = receive_read(&session, &block, &mut result[1..]);
     if answer == DONE {
         result[0] = validate(prefix, session.local_as, vrps, &block);
     }
-    (answer, 1 + length)
+    (answer, 1 + length, thrown_out)
 }
 
 /// A VRP added to those of its family.
-fn add_vrp<B: Bits>(vrps: &mut Vec<u8>, vrp: &[u8]) -> (u8, usize) {
+fn add_vrp<B: Bits>(vrps: &mut Vec<u8>, vrp: &[u8]) -> Answer {
     if vrp.len() < B::VRP {
         return (UNREADABLE, 0);
     }

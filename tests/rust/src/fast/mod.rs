@@ -1,4 +1,4 @@
-//! Document 01, with document 02's, in the best plain Rust that we can write: the same functions as the proved
+//! Document 01, with document 02's, in the best plain Rust that we can write: the same functions as the proved
 //! library's, over the same types, to measure it against. The tests hold both to `reference`.
 mod block;
 mod choice;
@@ -20,6 +20,9 @@ pub use passing::{receive, send};
 
 /// What a call tells: the answer, and the number beside it or 0 where there is none.
 type Answer = (u8, usize);
+
+/// The same, and how many tags are thrown out, or 0 where no such number is told.
+type Numbered = (u8, usize, usize);
 
 const DONE: u8 = 0;
 const LEAK: u8 = 1;

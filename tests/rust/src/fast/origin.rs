@@ -1,6 +1,6 @@
 //! Origin validation against a table of VRPs, and the state that received tags tell.
-use super::block::{is_tag, Block, Segments};
-use super::{number, Answer};
+use super::block::{is_erroneous, is_tag, Block, Segments};
+use super::{number, Answer, Numbered};
 use super::{BAD_SETTING, BAD_VRP, DONE, MALFORMED, MAX_BLOCK, MAX_VRPS, TOO_LONG};
 use super::{INVALID, NOT_FOUND, UNAVAILABLE, VALID};
 
@@ -162,21 +162,23 @@ fn origin(block: &Block, own_as: u32) -> Option<u32> {
     }
 }
 
-/// The greatest state up to 2 that a tag of a block tells, else unavailable.
-pub fn received_tag(block: &[u8]) -> Answer {
+/// The greatest state up to 2 that a tag of a block tells, else unavailable; and how many tags are thrown out.
+pub fn received_tag(block: &[u8]) -> Numbered {
     if block.len() > MAX_BLOCK {
-        return (TOO_LONG, 0);
+        return (TOO_LONG, 0, 0);
     }
     let block = match Block::read(block) {
         Ok(block) => block,
-        Err(fault) => return (MALFORMED, fault),
+        Err(fault) => return (MALFORMED, fault, 0),
     };
     let communities = block.communities.map_or(&[][..], |c| c.value);
-    let state = communities
-        .chunks_exact(8)
-        .filter(|community| is_tag(community))
-        .map(|tag| tag[7])
-        .filter(|state| *state <= INVALID)
-        .max();
-    (DONE, state.unwrap_or(UNAVAILABLE).into())
+    let (mut state, mut thrown_out) = (None, 0);
+    for tag in communities.chunks_exact(8).filter(|c| is_tag(c)) {
+        if is_erroneous(tag) {
+            thrown_out += 1;
+        } else {
+            state = state.max(Some(tag[7]));
+        }
+    }
+    (DONE, state.unwrap_or(UNAVAILABLE).into(), thrown_out)
 }

@@ -1,7 +1,7 @@
 //! Receipt and sending: the verdict on a block, and the block that is kept or sent.
-use super::block::Block;
+use super::block::{is_erroneous, is_tag, Block};
 use super::write::{store, LEARNED, OWN};
-use super::{drops_invalid, remote_role, Answer};
+use super::{drops_invalid, remote_role, Answer, Numbered};
 use super::{BAD_SETTING, LEAK, MALFORMED, TOO_LONG, WITHHELD};
 use super::{CUSTOMER, PEER, PROVIDER, RS, RS_CLIENT};
 use super::{INVALID, MAX_BLOCK, OWN_SOURCE, PRIORITISE, UNAVAILABLE};
@@ -17,33 +17,40 @@ pub fn is_session(session: &Session) -> bool {
 }
 
 /// What is kept of a block from the other end.
-pub fn receive(session: Session, block: &[u8], out: &mut [u8]) -> Answer {
+pub fn receive(session: Session, block: &[u8], out: &mut [u8]) -> Numbered {
     if !is_session(&session) {
-        return (BAD_SETTING, 0);
+        return (BAD_SETTING, 0, 0);
     }
     if block.len() > MAX_BLOCK {
-        return (TOO_LONG, 0);
+        return (TOO_LONG, 0, 0);
     }
     match Block::read(block) {
         Ok(block) => receive_read(&session, &block, out),
-        Err(fault) => (MALFORMED, fault),
+        Err(fault) => (MALFORMED, fault, 0),
     }
 }
 
 /// Receipt of a readable block on a session in range.
-pub fn receive_read(session: &Session, block: &Block, out: &mut [u8]) -> Answer {
+pub fn receive_read(session: &Session, block: &Block, out: &mut [u8]) -> Numbered {
     let from = remote_role(session.local_role);
     if let Some(otc) = block.otc {
         if matches!(from, CUSTOMER | RS_CLIENT) {
-            return (LEAK, 1);
+            return (LEAK, 1, thrown_out(block));
         }
         if from == PEER && otc != session.remote_as {
-            return (LEAK, 2);
+            return (LEAK, 2, thrown_out(block));
         }
     }
     let marks = matches!(from, PROVIDER | PEER | RS) && block.otc.is_none();
     let otc = marks.then_some(session.remote_as);
     store(block, LEARNED, None, otc, out)
+}
+
+// How many tags of a block that is not stored are thrown out.
+fn thrown_out(block: &Block) -> usize {
+    let communities = block.communities.as_ref().map_or(&[][..], |c| c.value);
+    let tags = communities.chunks_exact(8).filter(|c| is_tag(c));
+    tags.filter(|tag| is_erroneous(tag)).count()
 }
 
 /// What goes out of a block to the other end.
@@ -78,5 +85,6 @@ fn send_read(session: &Session, source: u8, state: u8, block: &Block, out: &mut 
     let marks = matches!(to, CUSTOMER | PEER | RS_CLIENT) && block.otc.is_none();
     let otc = marks.then_some(session.local_as);
     let flags = if source == OWN_SOURCE { OWN } else { LEARNED };
-    store(block, flags, tags.then_some(state), otc, out)
+    let (answer, length, _) = store(block, flags, tags.then_some(state), otc, out);
+    (answer, length)
 }

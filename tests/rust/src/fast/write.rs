@@ -1,19 +1,20 @@
 //! The block that receipt and sending store: a copy without tags, and with a tag and an OTC where they are due.
-use super::block::{is_tag, Block};
-use super::{Answer, DONE, MAX_BLOCK, NO_ROOM};
+use super::block::{is_erroneous, is_tag, Block};
+use super::{Numbered, DONE, MAX_BLOCK, NO_ROOM};
 
 /// The flags of new attributes: optional and transitive, and partial on a route that is not the sender's own.
 pub const OWN: u8 = 0xC0;
 pub const LEARNED: u8 = 0xE0;
 
-/// Stores a block without its tags, with a new tag and a new OTC if given, unless the result has no room.
+/// Stores a block without its tags, with a new tag and a new OTC if given, unless the result has no room; and tells how many of the
+/// tags are thrown out.
 pub fn store(
     block: &Block,
     flags: u8,
     tag: Option<u8>,
     otc: Option<u32>,
     out: &mut [u8],
-) -> Answer {
+) -> Numbered {
     let change = Change::of(block, tag);
     let tag_attribute = tag_attribute(flags, tag.unwrap_or(0));
     let new_tag: &[u8] = match tag {
@@ -28,7 +29,7 @@ pub fn store(
 
     let length = block.bytes.len() - change.old_size + change.size + new_tag.len() + new_otc.len();
     if length > out.len().min(MAX_BLOCK) {
-        return (NO_ROOM, 0);
+        return (NO_ROOM, 0, 0);
     }
     let mut pen = Pen { out, at: 0 };
     pen.copy(block, &change, 0, block.above_16);
@@ -36,7 +37,7 @@ pub fn store(
     pen.copy(block, &change, block.above_16, block.above_35);
     pen.put(new_otc);
     pen.copy(block, &change, block.above_35, block.bytes.len());
-    (DONE, length)
+    (DONE, length, change.thrown_out)
 }
 
 fn tag(state: u8) -> [u8; 8] {
@@ -56,6 +57,8 @@ fn otc_attribute(flags: u8, asn: u32) -> [u8; 7] {
 struct Change {
     /// How many bytes of communities are no tags; the attribute goes away if there are none.
     kept: usize,
+    /// How many tags are thrown out.
+    thrown_out: usize,
     /// The tag that goes after them.
     tag: Option<u8>,
     /// The size of the whole attribute in the block that is read, and in the new one.
@@ -67,13 +70,17 @@ impl Change {
     fn of(block: &Block, tag: Option<u8>) -> Self {
         let mut change = Change {
             kept: 0,
+            thrown_out: 0,
             tag: None,
             old_size: 0,
             size: 0,
         };
         if let Some(communities) = &block.communities {
-            let tags = communities.value.chunks_exact(8).filter(|c| is_tag(c));
-            change.kept = communities.value.len() - 8 * tags.count();
+            change.kept = communities.value.len();
+            for tag in communities.value.chunks_exact(8).filter(|c| is_tag(c)) {
+                change.kept -= 8;
+                change.thrown_out += usize::from(is_erroneous(tag));
+            }
             change.old_size = communities.end - communities.start;
             if change.kept != 0 {
                 change.tag = tag;

@@ -141,6 +141,14 @@ pub fn is_tag(community: &[u8]) -> bool {
     community[0] == 0x43 && community[1] == 0x00
 }
 
+/// "the number of 43 00 communities with a value above 2".
+pub fn thrown_out(attributes: &[Attribute]) -> usize {
+    let mut tags = communities_of(attributes);
+    tags.retain(|community| is_tag(community));
+    tags.retain(|tag| tag[7] > 2);
+    tags.len()
+}
+
 /// The bytes of a block.
 pub fn encode(attributes: &[Attribute]) -> Vec<u8> {
     let mut block = Vec::new();

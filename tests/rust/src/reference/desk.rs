@@ -3,7 +3,7 @@ use super::block::read;
 use super::input::Input;
 use super::opening::opened;
 use super::origin::{origin, state, vrp, vrp_size, Route, Vrp, IPV4, IPV6};
-use super::passing::{received, sent};
+use super::passing::{handed_on, received, sent};
 use super::{check_session, demand, Refusal};
 use super::{BAD_VRP, BLOCK_MAX, DONE, OUT_OF_RANGE, TOO_LONG, UNREADABLE, VRPS_MAX};
 use bgp_policy::Session;
@@ -33,9 +33,25 @@ pub fn desk(input: &[u8]) -> Vec<u8> {
         if result.is_empty() {
             shown.push('-');
         }
-        output += &format!("{} {answer} {shown}\n", index + 1);
+        let field = fourth_field(line, answer);
+        output += &format!("{} {answer} {shown}{field}\n", index + 1);
     }
     output.into_bytes()
+}
+
+/// "the desk's receipt line (readable, beginning 02 or 12) has it as a fourth field, decimal, on answers 0 and 1, "-" otherwise."
+fn fourth_field(line: &[u8], answer: u8) -> String {
+    let frame = decode(line).unwrap_or_default();
+    let head = match frame.first() {
+        Some(0x02) => 6,
+        Some(0x12) => 18,
+        _ => return String::new(),
+    };
+    let block = frame.get(head..).unwrap_or(&[]);
+    match handed_on(answer, block) {
+        Some(number) => format!(" {number}"),
+        None => " -".to_string(),
+    }
 }
 
 /// "Lines end at a line feed or the end of input; nothing after the last line feed is no line."

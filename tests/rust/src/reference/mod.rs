@@ -1,4 +1,4 @@
-//! Document 01 in plain Rust, with document 02's, written from their text alone and slow on purpose: whole lists
+//! Document 01 in plain Rust, with document 02's, written from their text alone and slow on purpose: whole lists
 //! that are read, altered and written anew. The tests compare the proved library with it. A file follows a section of document 01 or a
 //! request; sentences in quotes are its, after "Q-1:" or another request's number those of that request.
 mod block;

@@ -1,6 +1,7 @@
 //! "Origin state", of both families by one code, and "Reading a received tag from a block".
 use super::block::{communities_of, is_tag, path_of, read, Attribute};
 use super::input::Input;
+use super::passing::handed_on;
 use super::{demand, Refusal, BAD_VRP, BLOCK_MAX, DONE, OUT_OF_RANGE, TOO_LONG, VRPS_MAX};
 use super::{INVALID, NOT_FOUND, UNAVAILABLE, VALID};
 
@@ -136,12 +137,13 @@ fn bit(width: u8, prefix: u128, i: u8) -> u128 {
     prefix / 2u128.pow(u32::from(width - 1 - i)) % 2
 }
 
-/// What the received tag answers: on answer 0 the state is beside it.
-pub fn received_tag(block: &[u8]) -> (u8, usize) {
-    match told(block) {
+/// What the received tag answers: on answer 0 the state is beside it; and Q-8's number, or 0.
+pub fn received_tag(block: &[u8]) -> (u8, usize, usize) {
+    let (answer, beside) = match told(block) {
         Ok(state) => (DONE, state.into()),
         Err(refusal) => refusal,
-    }
+    };
+    (answer, beside, handed_on(answer, block).unwrap_or(0))
 }
 
 /// "values above 2 are thrown out first, then the greatest counts; with none left the state is 3".

@@ -1,5 +1,5 @@
 //! "Receipt" and "Sending".
-use super::block::{communities_of, encode, is_tag, otc_of, read, Attribute};
+use super::block::{communities_of, encode, is_tag, otc_of, read, thrown_out, Attribute};
 use super::block::{COMMUNITIES, LONG, OTC};
 use super::{check_session, counterpart, demand, mode_meant, Refusal};
 use super::{BLOCK_MAX, DONE, INELIGIBLE, NO_ROOM, OUT_OF_RANGE, TOO_LONG, WITHHELD};
@@ -13,9 +13,19 @@ const OWN_ROUTE: u8 = 255;
 /// begin E0; an own route keeps C0."
 const PARTIAL: u8 = 0x20;
 
-/// What receipt answers, and the number beside it; on answer 0 the block is in `out`, and its length beside.
-pub fn receive(session: Session, block: &[u8], out: &mut [u8]) -> (u8, usize) {
-    store(received(session, block, out.len()), out)
+/// What receipt answers, the number beside it, and the number that it hands on, or 0; on answer 0 the block is in `out`, and its length
+/// beside.
+pub fn receive(session: Session, block: &[u8], out: &mut [u8]) -> (u8, usize, usize) {
+    let (answer, beside) = store(received(session, block, out.len()), out);
+    (answer, beside, handed_on(answer, block).unwrap_or(0))
+}
+
+/// Q-8: "Receipt hands the number on", "on answers 0 and 1", and no other.
+pub fn handed_on(answer: u8, block: &[u8]) -> Option<usize> {
+    match answer {
+        DONE | INELIGIBLE => Some(thrown_out(&read(block).ok()?)),
+        _ => None,
+    }
 }
 
 /// What sending answers, and the number beside it; on answer 0 the block is in `out`, and its length beside.

@@ -43,11 +43,12 @@ pub fn print(name: &str, size: &str, unit: &str, sides: [f64; 2], ratio: f64) {
     println!("{name:<14} {size:<22} {unit:<5} {first:>11.1} {second:>11.1} {ratio:>7.2}");
 }
 
-// The time of some calls.
+// The time of some calls. What a call gives is used where it lies: a copy of three numbers just written would cost more than some
+// calls do.
 fn timed<T>(calls: u32, out: &mut [u8], run: &impl Fn(&mut [u8]) -> T) -> Duration {
     let start = Instant::now();
     for _ in 0..calls {
-        black_box(run(black_box(&mut *out)));
+        black_box(&run(black_box(&mut *out)));
     }
     start.elapsed()
 }
