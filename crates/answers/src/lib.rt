@@ -9,9 +9,11 @@ use rules::Refusal;
 use rules::Stated;
 use rules::TagRead;
 use settings::answers::refusal_number;
+use settings::states::UNAVAILABLE;
 ghost use mathlib.Core.Path.{_≡_};
 ghost use mathlib.Core.Option.{Option·getD};
-ghost use Rattle.rules.specs.Answers.{refused, number, answerNumber, besideNumber, toldOpened, toldReceived, thrownReceived, toldAdvertised, toldStated, toldTagRead, thrownRead};
+ghost use Rattle.rules.specs.Answers.{refused, number, answerNumber, besideNumber, toldOpened, toldReceived, thrownReceived, stateReceived, toldAdvertised, toldStated, toldTagRead, thrownRead};
+ghost use Rattle.rules.specs.Receipt.{ReceiptNumbers};
 ghost use Rattle.rules.specs.Index.{toldIndexed, toldLookedUp, LookUpNumbers};
 ghost use Rattle.rules.specs.Choice.{toldChosen, indexTold, leftTold};
 
@@ -59,18 +61,26 @@ fn report_unnumbered(refusal: Refusal, beside: &mut usize, thrown_out: &mut usiz
 }
 
 // An answer of receipt as numbers: likewise, with the length on answer 0, and through `thrown_out` how many tags are thrown out, 0
-// where no such number is told.
-pub fn report_received(answer: Received, beside: &mut usize, thrown_out: &mut usize) -> u8
-    ensures { λ r. ⌜ (r ≡ answerNumber (toldReceived answer)) × (now (beside .exit) ≡ besideNumber (toldReceived answer))
-        × (now («thrown_out» .exit) ≡ Option·getD (thrownReceived answer) 0) ⌝ }
+// where no such number is told, and through `state` the state handed on, 3, unavailable, where there is none.
+pub fn report_received(
+    answer: Received,
+    beside: &mut usize,
+    thrown_out: &mut usize,
+    state: &mut usize,
+) -> u8
+    ensures { λ r. ⌜ ReceiptNumbers (toldReceived answer) (thrownReceived answer) (stateReceived answer)
+        r (now (beside .exit)) (now («thrown_out» .exit)) (now (state .exit)) ⌝ }
 {
+    *state = UNAVAILABLE as usize;
     match answer {
         Received::Block {
             length,
             thrown_out: thrown,
+            state: told,
         } => {
             *beside = length;
             *thrown_out = thrown;
+            *state = told;
             0
         }
         Received::Ineligible {

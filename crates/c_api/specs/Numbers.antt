@@ -2,18 +2,30 @@
 use Prim.Native.Nat.{ℕ}
 use mathlib.Core.Path.{_≡_}
 use mathlib.Core.List.{List}
+use mathlib.Core.Option.{Option}
 use Rattle.rules.specs.Answers.{Answer, answerNumber, besideNumber}
 use Rattle.rules.specs.Attributes.{Attribute}
 use Rattle.rules.specs.Changes.{Leaves}
+use Rattle.rules.specs.Receipt.{GotNumbered, ReceiptNumbers}
 use Rattle.rules.specs.Index.{Finding, LookUpNumbers}
+use Rattle.rules.specs.declared.Session.{Session}
 
--- What receipt and sending promise, where `decided` is what the definition decides: the buffer and the answer as `Got` and `Sent` of
--- `rules` say them, and that answer as two numbers.
+-- What sending promises, where `decided` is what the definition decides: the buffer and the answer as `Sent` of `rules` says them, and
+-- that answer as two numbers.
 pub record Reported (decided : Answer (List Attribute)) (before : List ℕ) (number besides : ℕ) (after : List ℕ) : Type 0 where
   pub told : Answer ℕ
   pub leaves : Leaves decided before told after
   pub answered : number ≡ answerNumber told
   pub beside : besides ≡ besideNumber told
+
+-- What receipt promises: the buffer, the answer, the number of tags thrown out and the state as `GotNumbered` of `rules` says them, and the
+-- last three as four numbers.
+pub record ReportedReceipt (s : Session) (b before : List ℕ) (number besides tags stated : ℕ) (after : List ℕ) : Type 0 where
+  pub told : Answer ℕ
+  pub thrown : Option ℕ
+  pub state : Option ℕ
+  pub got : GotNumbered s b before told thrown state after
+  pub numbers : ReceiptNumbers told thrown state number besides tags stated
 
 -- What a build and an insertion promise: their answer and the memory as `Builds` and `Inserts` of `rules` say them, and that answer as two
 -- numbers.

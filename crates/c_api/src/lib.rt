@@ -8,19 +8,19 @@ use answers::report_received;
 use answers::report_stated;
 use answers::report_tag_read;
 use choice::keys::Sender;
-use rules::Session;
+use settings::sessions::session_of;
 use vrps::prefixes::words6;
 ghost use mathlib.Core.Path.{_≡_};
 ghost use Prim.Native.Nat.{_+_, _*_, _^_};
 ghost use mathlib.Core.Option.{Option·getD};
 ghost use Rattle.rules.specs.Answers.{answerNumber, besideNumber};
+ghost use Rattle.rules.specs.Settings.{sessionOf};
 ghost use Rattle.rules.specs.Roles.{openSession};
 ghost use Rattle.rules.specs.Changes.{thrownTold};
-ghost use Rattle.rules.specs.Receipt.{receiptVerdict};
 ghost use Rattle.rules.specs.Sending.{sendingVerdict};
 ghost use Rattle.rules.specs.Origin.{ipv4, ipv6, originState, receivedTag};
 ghost use Rattle.rules.specs.Choice.{chooseIn, better, indexTold, leftTold};
-ghost use Rattle.c_api.specs.Numbers.{Reported};
+ghost use Rattle.c_api.specs.Numbers.{Reported, ReportedReceipt};
 
 // Opening of a session: the role agreement in the OPEN's optional parameters.
 #[no_mangle]
@@ -31,29 +31,27 @@ pub extern "C" fn bgp_open(local_role: u8, strict: u8, parameters: &[u8], beside
     report_opened(answer, beside)
 }
 
-// Receipt of a block on a session; on answers 0 and 1, through `thrown_out`, how many tags of the block are thrown out, 0 on any other.
+// Receipt of a block on a session; on answers 0 and 1, through `thrown_out`, how many tags of the block are thrown out, 0 on any other; on
+// answer 0, through `state`, the state that the tags left tell, 3 on any other.
 #[no_mangle]
 pub extern "C" fn bgp_receive(
     local_as: u32,
     remote_as: u32,
     local_role: u8,
     mode: u8,
+    one_administration: u8,
     block: &[u8],
     out: &mut [u8],
     beside: &mut usize,
     thrown_out: &mut usize,
+    state: &mut usize,
 ) -> u8
-    ensures { λ r. ⌜ (Reported (receiptVerdict (record { «local_as» = «local_as»; «remote_as» = «remote_as»; «local_role» = «local_role»; mode = mode }) (now (block .entry))) (now (out .entry)) r (now (beside .exit)) (now (out .exit)))
-        × (now («thrown_out» .exit) ≡ Option·getD (thrownTold r (now (block .entry))) 0) ⌝ }
+    ensures { λ r. ⌜ ReportedReceipt (sessionOf «local_as» «remote_as» «local_role» mode «one_administration») (now (block .entry)) (now (out .entry))
+        r (now (beside .exit)) (now («thrown_out» .exit)) (now (state .exit)) (now (out .exit)) ⌝ }
 {
-    let session = Session {
-        local_as,
-        remote_as,
-        local_role,
-        mode,
-    };
-    let answer = policy::receive(session, block, out);
-    report_received(answer, beside, thrown_out)
+    let receiver = session_of(local_as, remote_as, local_role, mode, one_administration);
+    let answer = policy::receive(receiver, block, out);
+    report_received(answer, beside, thrown_out, state)
 }
 
 // Sending of a block on a session.
@@ -63,21 +61,17 @@ pub extern "C" fn bgp_send(
     remote_as: u32,
     local_role: u8,
     mode: u8,
+    one_administration: u8,
     source: u8,
     state: u8,
     block: &[u8],
     out: &mut [u8],
     beside: &mut usize,
 ) -> u8
-    ensures { λ r. ⌜ Reported (sendingVerdict (record { «local_as» = «local_as»; «remote_as» = «remote_as»; «local_role» = «local_role»; mode = mode }) source state (now (block .entry))) (now (out .entry)) r (now (beside .exit)) (now (out .exit)) ⌝ }
+    ensures { λ r. ⌜ Reported (sendingVerdict (sessionOf «local_as» «remote_as» «local_role» mode «one_administration») source state (now (block .entry))) (now (out .entry)) r (now (beside .exit)) (now (out .exit)) ⌝ }
 {
-    let session = Session {
-        local_as,
-        remote_as,
-        local_role,
-        mode,
-    };
-    let answer = policy::send(session, source, state, block, out);
+    let sender = session_of(local_as, remote_as, local_role, mode, one_administration);
+    let answer = policy::send(sender, source, state, block, out);
     report_advertised(answer, beside)
 }
 

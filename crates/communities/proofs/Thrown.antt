@@ -4,6 +4,7 @@ use mathlib.Core.Path.{_≡_, refl, ap, _∙_}
 use mathlib.Core.Bool.{Bool, true, false, cond}
 use mathlib.Core.List.{List, [], _∷_}
 use native.Mathlib.Omega.{arith}
+use lib.Dec.{eqb}
 use lib.ListN.{length, take, drop}
 use Rattle.rules.specs.Bytes.{keep}
 use Rattle.rules.specs.Rows.{chop, by}
@@ -22,7 +23,11 @@ module _ (c : List ℕ) where
 
   pub kept-unthrown : (test : ℕ) → dropTest test c ≡ false → isErroneous c ≡ false
   unfolding dropTest
-  kept-unthrown test h = other-unthrown h
+  kept-unthrown test = go (eqb test 0)
+    where
+      go : (x : Bool) → cond x isTag isErroneous c ≡ false → isErroneous c ≡ false
+      go true h = other-unthrown h
+      go false h = h
 
   module _ (n : ℕ) where
     pub thrown-one : isErroneous c ≡ true → ThrownMore n c (n + 1)

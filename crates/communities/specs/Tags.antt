@@ -3,13 +3,13 @@
 use mathlib.Core.Bool.{Bool, cond}
 use mathlib.Core.List.{List, []}
 use Prim.Native.Nat.{ℕ}
-use lib.Dec.{leb}
+use lib.Dec.{leb, eqb}
 use Rattle.rules.specs.Settings.{invalid}
-use Rattle.rules.specs.Changes.{isTag, tag}
+use Rattle.rules.specs.Changes.{isTag, isErroneous, tag}
 
--- The test that a number picks. There is one: "drop every community that begins 43 00".
+-- The test that a number picks. 0: "drop every community that begins 43 00"; any other, 02, Q-11: "only those … that have a value above 2".
 unfoldable pub dropTest : ℕ → List ℕ → Bool
-dropTest test c = isTag c
+dropTest test = cond (eqb test 0) isTag isErroneous
 
 -- What is left of a community: nothing of one that is dropped, else all of it.
 unfoldable pub kept : (List ℕ → Bool) → List ℕ → List ℕ

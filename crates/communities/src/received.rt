@@ -1,5 +1,6 @@
-// The received tag (01, "Origin state"; 02, Q-8; RFC 8097 section 2; 002 section 4.4).
+// The received tag (01, "Origin state"; 02, Q-8 and Q-11; RFC 8097 section 2; 002 section 4.4).
 use super::findings::Tags;
+use super::tags::ALL_TAGS;
 use super::tags::COMMUNITY_SIZE;
 use super::tags::is_erroneous;
 use super::tags::is_tag;
@@ -7,8 +8,9 @@ use settings::states::UNAVAILABLE;
 ghost use mathlib.Core.Path.{_≡_};
 ghost use Prim.Native.Nat.{_+_, _<_, _^_};
 ghost use lib.ListN.{length};
-ghost use Rattle.rules.specs.Changes.{thrownOut};
+ghost use Rattle.rules.specs.Changes.{dropFrom, thrownOut};
 ghost use Rattle.rules.specs.Origin.{tagValues, tagState};
+ghost use Rattle.communities.specs.Tags.{dropTest};
 ghost use Rattle.communities.specs.Received.{greater};
 ghost use Rattle.communities.specs.Walks.{ReadMore};
 
@@ -58,4 +60,15 @@ pub fn read_tags(v: &[u8]) -> Tags
         at += COMMUNITY_SIZE;
     }
     tags
+}
+
+// The state that the tags left tell once some are dropped, by the number of the test that picks those. Where every tag is dropped no walk is
+// made: none is left.
+pub fn state_left(test: u8, v: &[u8]) -> u8
+    ensures { λ r. ⌜ r ≡ tagState (tagValues (dropFrom (dropTest test) (now (v .entry)))) ⌝ }
+{
+    if test == ALL_TAGS {
+        return UNAVAILABLE;
+    }
+    read_tags(v).state
 }

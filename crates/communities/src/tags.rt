@@ -1,5 +1,5 @@
 // Tags, the origin validation state communities of RFC 8097 section 2: which communities are tags, which are dropped, and the
-// bytes of a new one (01, "Receipt" and "Sending").
+// bytes of a new one (01, "Receipt" and "Sending"; 02, Q-11).
 use octets::buffer::put;
 use settings::states::INVALID;
 ghost use mathlib.Core.Path.{_≡_};
@@ -17,8 +17,10 @@ pub const TAG_TYPE: u8 = 0x43;
 
 pub const TAG_SUBTYPE: u8 = 0;
 
-// The tests of which communities are dropped, as numbers to hand on: every tag is.
+// The tests of which communities are dropped, as numbers to hand on: every tag is, or those above 2 alone.
 pub const ALL_TAGS: u8 = 0;
+
+pub const ERRONEOUS_TAGS: u8 = 1;
 
 // Whether a community is a tag. Internal.
 pub fn is_tag(c: &[u8]) -> bool
@@ -47,7 +49,10 @@ pub fn is_dropped(test: u8, c: &[u8]) -> bool
     requires { ⌜ length (now c) ≡ 8 ⌝ }
     ensures { λ r. ⌜ r ≡ dropTest test (now (c .entry)) ⌝ }
 {
-    is_tag(c)
+    if test == ALL_TAGS {
+        return is_tag(c);
+    }
+    is_erroneous(c)
 }
 
 // How many bytes a new tag has: none where the state is unavailable. Internal.

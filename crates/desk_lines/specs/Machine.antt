@@ -6,6 +6,7 @@ use mathlib.Core.Bool.{Bool, true, false}
 use mathlib.Core.List.{List, [], _∷_, _++_}
 use lib.ListN.{length, take}
 use Rattle.rules.specs.Answers.{Answer, answerNumber}
+use Rattle.rules.specs.Settings.{sessionOf}
 use Rattle.rules.specs.Text.{lines, saidFrom, space, decimal}
 use Rattle.rules.specs.Desk.{Desk, outputLine, shownResult, lineAnswer, lineField, lineNext}
 use Rattle.octets.specs.Buffer.{Stored}
@@ -49,7 +50,7 @@ begun =
       number = 0;
       held = 0;
       wrote = 0;
-      kept = record { used = 0; used6 = 0; live = false; session = record { «local_as» = 0; «remote_as» = 0; «local_role» = 0; mode = 0 } };
+      kept = record { used = 0; used6 = 0; live = false; session = sessionOf 0 0 0 0 0 };
     }
 
 unfoldable pub turnOf : State → List ℕ → Turn

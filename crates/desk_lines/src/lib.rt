@@ -8,7 +8,7 @@ pub mod state;
 use desk_memory::kept::Kept;
 use input_lines::cut_line;
 use lines::answer_line;
-use rules::Session;
+use settings::sessions::session_of;
 use sizes::ANSWER_MAX;
 use state::Progress;
 use state::State;
@@ -24,17 +24,11 @@ ghost use Rattle.desk_lines.specs.Machine.{Ready, Lent, Progressed, begu
 pub fn begin() -> State
     ensures { λ r. ⌜ r ≡ begun ⌝ }
 {
-    let session = Session {
-        local_as: 0,
-        remote_as: 0,
-        local_role: 0,
-        mode: 0,
-    };
     let kept = Kept {
         used: 0,
         used6: 0,
         live: false,
-        session,
+        session: session_of(0, 0, 0, 0, 0),
     };
     State {
         number: 0,

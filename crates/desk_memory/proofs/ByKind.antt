@@ -11,7 +11,7 @@ use lib.Seq.{take-at, drop-at, take-take}
 use Rattle.rules.specs.Bytes.{exists, oneOf}
 use Rattle.rules.specs.Answers.{Answer, done, refused, order, number}
 use Rattle.rules.specs.Origin.{ipv4, ipv6, vrps}
-use Rattle.rules.specs.Desk.{Desk, sessionFrame, receiptFrame, sendingFrame, vrpIn, vrpFrame, inSession, frameAnswer, frameNext}
+use Rattle.rules.specs.Desk.{Desk, sessionFrame, receiptFrame, sendingFrame, vrpIn, vrpFrame, inSession, frameAnswer, frameNext, sessionHead}
 use Rattle.rules.specs.declared.Refusal.the-variants.{Unreadable}
 use Rattle.octets.specs.Buffer.{Stored}
 use Rattle.octets.proofs.Slices.{part-is}
@@ -103,9 +103,9 @@ abbrev next : Kept → List ℕ → List ℕ → Desk
 next kept tables f = frameNext (deskOf kept tables) f (frameAnswer (deskOf kept tables) f)
 
 module _ (kept : Kept) (tables f : List ℕ) {x : Bool} (d : wasDone (frameAnswer (deskOf kept tables) f) ≡ x) where
-  pub kept-long : getD f 0 0 ≡ 1 → x ≡ true → 12 ≤ length f
+  pub kept-long : getD f 0 0 ≡ 1 → x ≡ true → sessionHead ≤ length f
   unfolding frameAnswer sessionFrame order number oneOf exists
-  kept-long e z = ltb-false (length f) 12 (done-passed _ _ (rw e at (d ∙ z)) .0 refl)
+  kept-long e z = ltb-false (length f) sessionHead (done-passed _ _ (rw e at (d ∙ z)) .0 refl)
 
   pub kept-session : getD f 0 0 ≡ 1 → {k : Kept} → k ≡ keptSession kept f x → deskOf k tables ≡ next kept tables f
   unfolding deskOf keptSession frameNext wasDone

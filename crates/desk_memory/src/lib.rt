@@ -23,6 +23,7 @@ ghost use mathlib.Core.Path.{_≡_};
 ghost use mathlib.Core.Bool.{true};
 ghost use Prim.Native.Nat.{_≤_};
 ghost use lib.ListN.{length};
+ghost use Rattle.rules.specs.Desk.{sessionHead};
 ghost use Rattle.frames.specs.Sizes.{resultMax};
 ghost use Rattle.desk_memory.specs.Keeping.{deskOf, isReceipt, unreadable, TellsFrame, Keeps, Agrees, KeptNext, keptSession};
 
@@ -95,7 +96,7 @@ pub fn answer_frame(kept: Kept, tables: &[u8], frame: &[u8], made: &mut [u8]) ->
 
 // What is kept after a session frame that was answered 0, or not. Internal.
 fn keep_session(kept: Kept, frame: &[u8], taken: bool) -> Kept
-    requires { ⌜ (taken ≡ true → 12 ≤ length (now frame)) ⌝ }
+    requires { ⌜ (taken ≡ true → sessionHead ≤ length (now frame)) ⌝ }
     ensures { λ r. ⌜ r ≡ keptSession kept (now (frame .entry)) taken ⌝ }
 {
     let used = kept.used;

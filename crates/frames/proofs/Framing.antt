@@ -16,7 +16,7 @@ use Rattle.rules.specs.Changes.{blockChecks, noRoom, fitted, Leaves}
 use Rattle.rules.specs.Receipt.{receiptRules, receiptResult, receiptVerdict, receive}
 use Rattle.rules.specs.Sending.{sendingVerdict, send}
 use Rattle.rules.specs.Origin.{vrps, stateIn, originIn, originAs}
-use Rattle.rules.specs.Desk.{sessionIn, sessionFrame, receiptFrame, sendingFrame}
+use Rattle.rules.specs.Desk.{sessionHead, sessionIn, sessionFrame, receiptFrame, sendingFrame}
 use Rattle.rules.specs.declared.Refusal.{Refusal}
 use Rattle.rules.specs.declared.Refusal.the-variants.{BadSetting, NoRoom, Unreadable}
 use Rattle.rules.specs.declared.Session.{Session}
@@ -80,28 +80,28 @@ receive-later s b room r e = fitted-later (receiptVerdict s b) room r decided e
 -- ---- Session
 
 module _ (f made : List ℕ) where
-  pub session-short : length f < 12 → Replies (sessionFrame f) made (Refused Unreadable)
+  pub session-short : length f < sessionHead → Replies (sessionFrame f) made (Refused Unreadable)
   unfolding sessionFrame answer order first number
-  session-short h = replies-refused made (rw (lt-ltb (length f) 12 h) refl)
+  session-short h = replies-refused made (rw (lt-ltb (length f) sessionHead h) refl)
 
-  module _ (h : 12 ≤ length f) where
+  module _ (h : sessionHead ≤ length f) where
     pub session-setting : sessionOk (sessionIn f) ≡ false → Replies (sessionFrame f) made (Refused BadSetting)
     unfolding sessionFrame
     session-setting e =
         replies-refused made
-        (rw (le-ltb (length f) 12 h, e)
-        (through-setting (openSession (getD f 9 0) (getD f 10 0) (drop 12 f)) (open-later (getD f 9 0) (getD f 10 0) (drop 12 f)) _))
+        (rw (le-ltb (length f) sessionHead h, e)
+        (through-setting (openSession (getD f 9 0) (getD f 10 0) (drop sessionHead f)) (open-later (getD f 9 0) (getD f 10 0) (drop sessionHead f)) _))
 
     module _ (ok : sessionOk (sessionIn f) ≡ true) where
-      pub session-refused : {r : Refusal} → refused r ≡ openSession (getD f 9 0) (getD f 10 0) (drop 12 f) → Replies (sessionFrame f) made (Refused r)
+      pub session-refused : {r : Refusal} → refused r ≡ openSession (getD f 9 0) (getD f 10 0) (drop sessionHead f) → Replies (sessionFrame f) made (Refused r)
       unfolding sessionFrame
-      session-refused e = replies-refused made (rw (le-ltb (length f) 12 h, ok) (through-both (sym e) _))
+      session-refused e = replies-refused made (rw (le-ltb (length f) sessionHead h, ok) (through-both (sym e) _))
 
-      session-is : {role : ℕ} → done role ≡ openSession (getD f 9 0) (getD f 10 0) (drop 12 f) → sessionFrame f ≡ done (role ∷ [])
+      session-is : {role : ℕ} → done role ≡ openSession (getD f 9 0) (getD f 10 0) (drop sessionHead f) → sessionFrame f ≡ done (role ∷ [])
       unfolding sessionFrame answer order first number refusals resultOr
-      session-is e = rw (le-ltb (length f) 12 h, ok, ← e) refl
+      session-is e = rw (le-ltb (length f) sessionHead h, ok, ← e) refl
 
-      pub session-opened : {role : ℕ} → length made ≡ resultMax → done role ≡ openSession (getD f 9 0) (getD f 10 0) (drop 12 f)
+      pub session-opened : {role : ℕ} → length made ≡ resultMax → done role ≡ openSession (getD f 9 0) (getD f 10 0) (drop sessionHead f)
           → Replies (sessionFrame f) (set made 0 role) (Bytes 1)
       unfolding replied
       session-opened {role} k e =

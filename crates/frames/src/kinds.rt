@@ -1,4 +1,4 @@
-// Frames of each kind, answered (01, "The desk program"; 02, Q-8). Each function stores its result at the start of `made`, which its
+// Frames of each kind, answered (01, "The desk program"; 02, Q-8 and Q-11). Each function stores its result at the start of `made`, which its
 // caller lends, and answers how many bytes that is, or a refusal. All of it is internal: `answer_frame` calls it.
 use super::reply::Outcome;
 use super::reply::Reply;
@@ -19,6 +19,7 @@ use rules::Session;
 use rules::VRPS_MAX;
 use settings::ranges::prefix_length_ok;
 use settings::ranges::session_ok;
+use settings::sessions::session_of;
 use vrp_tables::parts::scan_parts;
 use vrps::AFTER_PREFIX;
 use vrps::bad_vrp;
@@ -28,28 +29,29 @@ ghost use mathlib.Core.List.{List};
 ghost use Prim.Native.Nat.{_*_, _≤_};
 ghost use lib.ListN.{length};
 ghost use Rattle.rules.specs.Origin.{Vrp, vrpSize, vrps};
-ghost use Rattle.rules.specs.Desk.{sessionIn, sessionFrame, sendingFrame, vrpFrame};
+ghost use Rattle.rules.specs.Desk.{sessionHead, sessionIn, sessionFrame, sendingFrame, vrpFrame};
 ghost use Rattle.vrp_tables.specs.Scan.{GoodTable};
 ghost use Rattle.frames.specs.Sizes.{resultMax};
 ghost use Rattle.vrps.specs.Widths.{Whole};
 ghost use Rattle.frames.specs.Replying.{Replies, TellsReceipt};
 
 // The least bytes of a session frame and of a sending frame.
-const SESSION_MIN: usize = 12;
+const SESSION_MIN: usize = 13;
 
 const SENDING_MIN: usize = 3;
 
-// 01: local AS 4, remote AS 4, local role, strict, mode. Internal.
+// 01: local AS 4, remote AS 4, local role, strict, mode, whether both ends are under one administration. Internal.
 pub fn session_in(frame: &[u8]) -> Session
-    requires { ⌜ 12 ≤ length (now frame) ⌝ }
+    requires { ⌜ sessionHead ≤ length (now frame) ⌝ }
     ensures { λ r. ⌜ r ≡ sessionIn (now (frame .entry)) ⌝ }
 {
-    Session {
-        local_as: number4(&frame[1..5]),
-        remote_as: number4(&frame[5..9]),
-        local_role: frame[9],
-        mode: frame[11],
-    }
+    session_of(
+        number4(&frame[1..5]),
+        number4(&frame[5..9]),
+        frame[9],
+        frame[11],
+        frame[12],
+    )
 }
 
 // 01, session, with the OPEN's parameters after the settings; its result is the remote role. Internal.
@@ -76,7 +78,7 @@ pub fn session_frame(frame: &[u8], made: &mut [u8]) -> Reply
 }
 
 // 02 and 12, receipt: prefix length, prefix of so many bits, block; its result is the state, found after the verdict, and the block. The
-// fourth field is how many tags of the block are thrown out. Internal.
+// fourth field is how many tags of the block are thrown out. The state is the table's, though it is empty, never one that tags tell. Internal.
 pub fn receipt_frame(
     width: usize,
     session: Session,
@@ -108,10 +110,12 @@ pub fn receipt_frame(
             length,
             as_path,
             thrown_out,
+            state,
         } => {
             let origin = path_origin(value(block, as_path), session.local_as);
             let prefix = words(&frame[2..head]);
-            made[0] = scan_parts(width, table, prefix, len, origin);
+            let found = scan_parts(width, table, prefix, len, origin);
+            made[0] = found;
             numbered(Reply::Bytes(1 + length), thrown_out)
         }
     }

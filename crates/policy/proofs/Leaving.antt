@@ -24,10 +24,10 @@ use Rattle.attributes.proofs.Found.{fault-read}
 use Rattle.rewriting.specs.Plan.{ReadBlock}
 use Rattle.verdicts.specs.Judge.{ruled, judged}
 
--- By the same flags, tag and OTC the same is made of a block.
-pub rewritten-same : (dropped : List ℕ → Bool) (l : List Attribute) {f g : ℕ} {tag state otc asn : Option ℕ} → f ≡ g → tag ≡ state → otc ≡ asn
-    → rewritten dropped f tag otc l ≡ rewritten dropped g state asn l
-rewritten-same dropped l p q r = rw (p, q, r) refl
+-- By the same test, flags, tag and OTC the same is made of a block.
+pub rewritten-same : (l : List Attribute) {dropped test : List ℕ → Bool} {f g : ℕ} {tag state otc asn : Option ℕ}
+    → test ≡ dropped → f ≡ g → tag ≡ state → otc ≡ asn → rewritten test f tag otc l ≡ rewritten dropped g state asn l
+rewritten-same l d p q r = rw (d, p, q, r) refl
 
 leaves-refused : {decided : Answer (List Attribute)} (before : List ℕ) {r : Refusal} → decided ≡ refused r → Leaves decided before (refused r) before
 unfolding fitted sized stored

@@ -1,5 +1,5 @@
-// Receipt and sending (RFC 9234 section 5, RFC 8097; 01, "Receipt" and "Sending"; 02, Q-8): the checks, the verdict, and the block
-// rewritten.
+// Receipt and sending (RFC 9234 section 5, RFC 8097; 01, "Receipt" and "Sending"; 02, Q-8 and Q-11): the checks, the verdict, and the
+// block rewritten.
 pub mod placed;
 
 use attributes::layout::Reading;
@@ -7,6 +7,7 @@ use attributes::otc_as;
 use attributes::read;
 use attributes::value;
 use communities::left::sift;
+use communities::received::state_left;
 use communities::tags::ALL_TAGS;
 use placed::Placed;
 use rewriting::plan::Output;
@@ -23,10 +24,11 @@ use settings::states::UNAVAILABLE;
 use verdicts::new_flags;
 use verdicts::receipt_rule;
 use verdicts::received_otc;
+use verdicts::received_test;
 use verdicts::sending_rule;
 use verdicts::sent_otc;
 use verdicts::sent_tag;
-ghost use Rattle.rules.specs.Answers.{toldReceived, thrownReceived, toldAdvertised};
+ghost use Rattle.rules.specs.Answers.{toldReceived, thrownReceived, stateReceived, toldAdvertised};
 ghost use Rattle.rules.specs.Receipt.{GotNumbered};
 ghost use Rattle.rules.specs.Sending.{Sent};
 ghost use Rattle.policy.specs.Placed.{GotPlaced};
@@ -54,15 +56,17 @@ pub fn receive_placed(session: Session, block: &[u8], out: &mut [u8]) -> Placed
                 let thrown_out = sift(ALL_TAGS, value(block, layout.communities)).thrown_out;
                 return Placed::Ineligible { rule, thrown_out };
             }
+            let test = received_test(session);
             let asn = received_otc(session);
             let flags = new_flags(false);
-            let output = store(block, layout, ALL_TAGS, flags, UNAVAILABLE, asn, out);
+            let output = store(block, layout, test, flags, UNAVAILABLE, asn, out);
             match output {
                 Output::Full => Placed::Refused(Refusal::NoRoom),
                 Output::Bytes { length, thrown_out } => Placed::Block {
                     length,
                     as_path: layout.as_path,
                     thrown_out,
+                    state: state_left(test, value(block, layout.communities)),
                 },
             }
         }
@@ -70,9 +74,9 @@ pub fn receive_placed(session: Session, block: &[u8], out: &mut [u8]) -> Placed
 }
 
 // Receipt (RFC 9234 section 5, ingress): the route as it may be installed, or why not; on answers 0 and 1 also how many tags of the
-// block received are thrown out.
+// block received are thrown out, and on answer 0 the state that those left tell.
 pub fn receive(session: Session, block: &[u8], out: &mut [u8]) -> Received
-    ensures { λ r. ⌜ GotNumbered session (now (block .entry)) (now (out .entry)) (toldReceived r) (thrownReceived r) (now (out .exit)) ⌝ }
+    ensures { λ r. ⌜ GotNumbered session (now (block .entry)) (now (out .entry)) (toldReceived r) (thrownReceived r) (stateReceived r) (now (out .exit)) ⌝ }
 {
     let placed = receive_placed(session, block, out);
     match placed {
@@ -82,7 +86,12 @@ pub fn receive(session: Session, block: &[u8], out: &mut [u8]) -> Received
             length,
             as_path,
             thrown_out,
-        } => Received::Block { length, thrown_out },
+            state,
+        } => Received::Block {
+            length,
+            thrown_out,
+            state: state as usize,
+        },
     }
 }
 

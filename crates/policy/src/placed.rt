@@ -7,6 +7,7 @@ pub enum Placed {
         length: usize,
         as_path: usize,
         thrown_out: usize,
+        state: u8,
     },
     Ineligible {
         rule: u8,

@@ -1,4 +1,4 @@
--- How many tags of a block that has been read are thrown out, by the value of its communities.
+-- The communities of a block that has been read by their value where they stand, and how many tags of it are thrown out.
 use mathlib.Core.Path.{_≡_, ap, _∙_}
 use mathlib.Core.List.{List}
 use Prim.Native.Nat.{ℕ}
@@ -9,7 +9,10 @@ use Rattle.attributes.specs.declared.layout.Layout.{Layout}
 use Rattle.attributes.proofs.Found.{value-of}
 use Rattle.rewriting.specs.Plan.{ReadBlock}
 
-pub thrown-found : {b : List ℕ} {l : Layout} (w : ReadBlock b l) {v : List ℕ} {n : ℕ} → v ≡ valueAt (l .communities) b → n ≡ thrownOut v
-    → n ≡ thrownOut (valueOf communitiesType (attributes b))
-unfolding layout
-thrown-found {b} w e q = q ∙ ap thrownOut (e ∙ rw (w .is) (value-of communitiesType b (w .clean)))
+module _ {b : List ℕ} {l : Layout} (w : ReadBlock b l) {v : List ℕ} (e : v ≡ valueAt (l .communities) b) where
+  pub communities-found : v ≡ valueOf communitiesType (attributes b)
+  unfolding layout
+  communities-found = e ∙ rw (w .is) (value-of communitiesType b (w .clean))
+
+  pub thrown-found : {n : ℕ} → n ≡ thrownOut v → n ≡ thrownOut (valueOf communitiesType (attributes b))
+  thrown-found q = q ∙ ap thrownOut communities-found

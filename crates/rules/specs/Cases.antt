@@ -3,18 +3,18 @@ use Prim.Native.Nat.{ℕ, _+_, _*_}
 use Prim.Native.String.{String}
 use Prim.Native.String as S
 use Prim.Native.Char.{code}
-use mathlib.Core.Bool.{Bool}
+use mathlib.Core.Bool.{Bool, cond}
 use mathlib.Core.List.{List, [], _∷_, _++_}
 use mathlib.Core.Option.{Option, none, some}
 use lib.Dec.{eqb}
 use lib.ListN.{length, replicate}
 use Rattle.rules.specs.Bytes.{bigEndian, sameBytes}
 use Rattle.rules.specs.Answers.{Answer, done, refused, number, beside, answerNumber, stored}
-use Rattle.rules.specs.Settings.{simpleTagging, invalid}
+use Rattle.rules.specs.Settings.{rs, sessionOf, simpleTagging, invalid}
 use Rattle.rules.specs.Roles.{counterpart, openSession}
 use Rattle.rules.specs.Attributes.{communitiesType}
 use Rattle.rules.specs.Changes.{thrownTold, newAttribute, withTag}
-use Rattle.rules.specs.Receipt.{receive}
+use Rattle.rules.specs.Receipt.{receive, stateHandedOn}
 use Rattle.rules.specs.Sending.{ownRoute, send}
 use Rattle.rules.specs.Origin.{prefixIn, vrps, stateOver, originState, receivedTag}
 use Rattle.rules.specs.Index.{buildIndex, insertRecord, Finding, lookUp}
@@ -78,7 +78,7 @@ pub data Case : Type 0 where
   -- receipt and sending: what they are handed, and what their buffer held
   receiving : Session → String → List ℕ → List ℕ → Case
   dispatching : Session → ℕ → ℕ → String → List ℕ → List ℕ → Case
-  -- receipt again: the number of its answer, and that of the tags thrown out
+  -- receipt again: the number of its answer, that of the tags thrown out, and the state handed on
   handingOn : Session → String → List ℕ → List ℕ → Case
   -- the buffer after the sending of an own route, state unavailable
   leaving : Session → String → List ℕ → List ℕ → Case
@@ -102,20 +102,26 @@ pub data Case : Type 0 where
   -- choosing: mode, client, buffer
   choosing : ℕ → ℕ → String → List Offer → List ℕ → Case
   comparing : Candidate → Candidate → List ℕ → Case
-  -- a chain in simple tagging, by the roles of its senders, that carries an own route: run, and foretold by the order of hops
-  carrying : List ℕ → End → Case
+  -- a chain in simple tagging, by the senders' byte of 02, Q-11, the receivers' and the roles of its senders, that carries an own route: run, and
+  -- foretold by the order of hops
+  carrying : ℕ → ℕ → List ℕ → End → Case
 
--- The hops of a chain of sessions in some mode, over the ASes n, n + 1 and so on, by the roles of the senders, with an invalid route.
-unfoldable pub hops : ℕ → ℕ → List ℕ → List Hop
-hops mode n [] = []
-hops mode n (role ∷ roles) =
+-- One end of a session in some mode, with a byte of 02, Q-11, which of an RS is 0.
+unfoldable pub endOf : ℕ → ℕ → ℕ → ℕ → ℕ → Session
+endOf mode byte local remote role = sessionOf local remote role mode (cond (eqb role rs) 0 byte)
+
+-- The hops of a chain of sessions in some mode, over the ASes n, n + 1 and so on, by the bytes of the two ends and the roles of the senders,
+-- with an invalid route.
+unfoldable pub hops : ℕ → ℕ → ℕ → ℕ → List ℕ → List Hop
+hops mode sends gets n [] = []
+hops mode sends gets n (role ∷ roles) =
     record {
-      sender = record { «local_as» = n; «remote_as» = n + 1; «local_role» = role; mode = mode };
-      receiver = record { «local_as» = n + 1; «remote_as» = n; «local_role» = counterpart role; mode = mode };
+      sender = endOf mode sends n (n + 1) role;
+      receiver = endOf mode gets (n + 1) n (counterpart role);
       state = invalid;
       senderBuffer = replicate 4073 7;
       receiverBuffer = replicate 4073 9;
-    } ∷ hops mode (n + 1) roles
+    } ∷ hops mode sends gets (n + 1) roles
 
 -- An own route: ORIGIN and an empty AS_PATH.
 unfoldable pub shortest : List ℕ
@@ -131,7 +137,7 @@ holds (opening role strict s wanted) = sameBytes (numbers (λ r. r ∷ []) (open
 holds (receiving s b buffer wanted) = sameBytes (numbers (λ r. r) (receive s (hex b) (length buffer))) wanted
 holds (handingOn s b buffer wanted) =
     let a = receive s (hex b) (length buffer) in
-    sameBytes (answerNumber a ∷ thrownBeside a (hex b)) wanted
+    sameBytes (answerNumber a ∷ thrownBeside a (hex b) ++ orNothing (stateHandedOn s (answerNumber a) (hex b))) wanted
 holds (dispatching s source state b buffer wanted) =
     sameBytes (numbers (λ r. r) (send s source state (hex b) (length buffer))) wanted
 holds (leaving s b buffer wanted) = sameBytes (stored (send s ownRoute 3 (hex b) (length buffer)) buffer) wanted
@@ -152,6 +158,6 @@ holds (reading b wanted) = sameBytes (numbers (λ r. r ∷ []) (receivedTag (hex
 holds (choosing mode client buffer offers wanted) =
     sameBytes (numbers (λ (c : Choice). c .index ∷ c .left ∷ []) (choose mode client (hex buffer) offers)) wanted
 holds (comparing a b wanted) = sameBytes (numbers (λ r. r ∷ []) (better a b) ++ winnersBlock a b (better a b)) wanted
-holds (carrying roles end) =
-    sameBytes (endNumbers (run (hops simpleTagging 1 roles) shortest) ++ endNumbers (foretold (orderOf (hops simpleTagging 1 roles)) (arrival end)))
-    (endNumbers end ++ endNumbers end)
+holds (carrying sends gets roles end) =
+    let chain = hops simpleTagging sends gets 1 roles in
+    sameBytes (endNumbers (run chain shortest) ++ endNumbers (foretold (orderOf chain) (arrival end))) (endNumbers end ++ endNumbers end)

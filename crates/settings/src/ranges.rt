@@ -1,15 +1,17 @@
-// The range of each setting, and of those that a call takes together (01, "Settings").
+// The range of each setting, and of those that a call takes together (01, "Settings"; 02, Q-11).
 use super::flags::both;
 use super::modes::PRIORITISE;
 use super::roles::OWN_ROUTE;
 use super::roles::PEER;
+use super::roles::RS;
+use super::sessions::ONE_ADMINISTRATION;
 use super::states::UNAVAILABLE;
 use rules::BLOCK_MAX;
 use rules::Session;
 ghost use mathlib.Core.Path.{_≡_};
 ghost use mathlib.Core.Bool.{not, _&&_};
 ghost use lib.Dec.{leb, eqb};
-ghost use Rattle.rules.specs.Settings.{blockMax, asOk, roleOk, strictOk, modeOk, stateOk, sourceOk, prefixLengthOk, sessionOk};
+ghost use Rattle.rules.specs.Settings.{blockMax, asOk, roleOk, strictOk, modeOk, stateOk, sourceOk, prefixLengthOk, administrationOk, sessionOk};
 
 // "AS numbers 1 to 4,294,967,295"
 fn as_ok(n: u32) -> bool
@@ -67,13 +69,24 @@ pub fn block_size_ok(len: usize) -> bool
     len <= BLOCK_MAX
 }
 
+// "5 for a byte above 1, or 1 with local role RS": at an RS, which must strip tags, 0 alone is in range.
+fn administration_ok(session: Session) -> bool
+    ensures { λ r. ⌜ r ≡ administrationOk session ⌝ }
+{
+    if session.local_role == RS {
+        return session.one_administration < ONE_ADMINISTRATION;
+    }
+    session.one_administration <= ONE_ADMINISTRATION
+}
+
 // The settings of a session.
 pub fn session_ok(session: Session) -> bool
     ensures { λ r. ⌜ r ≡ sessionOk session ⌝ }
 {
     let ases = ases_ok(session.local_as, session.remote_as);
     let role = both(ases, role_ok(session.local_role));
-    both(role, mode_ok(session.mode))
+    let mode = both(role, mode_ok(session.mode));
+    both(mode, administration_ok(session))
 }
 
 // The settings of sending: those of its session, the source and the state.

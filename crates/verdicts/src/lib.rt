@@ -1,5 +1,7 @@
-// The rules of receipt and sending, and what they add (01, "Receipt" and "Sending"; 02, Q-2; RFC 9234 section 5). All of it is
-// internal: receipt and sending call it.
+// The rules of receipt and sending, and what they drop and add (01, "Receipt" and "Sending"; 02, Q-2 and Q-11; RFC 9234 section 5). All
+// of it is internal: receipt and sending call it.
+use communities::tags::ALL_TAGS;
+use communities::tags::ERRONEOUS_TAGS;
 use rules::Session;
 use settings::flags::both;
 use settings::flags::one_of_three;
@@ -13,6 +15,7 @@ use settings::roles::PROVIDER;
 use settings::roles::RS;
 use settings::roles::RS_CLIENT;
 use settings::roles::remote_role;
+use settings::sessions::one_administration;
 use settings::states::INVALID;
 use settings::states::UNAVAILABLE;
 ghost use mathlib.Core.Path.{_≡_};
@@ -25,9 +28,10 @@ ghost use Rattle.rules.specs.Bytes.{oneOf};
 ghost use Rattle.rules.specs.Settings.{sessionOk, modeMeant, dropInvalid, invalid};
 ghost use Rattle.rules.specs.Roles.{provider, rs, rsClient, customer, peer};
 ghost use Rattle.rules.specs.Changes.{newFlags};
-ghost use Rattle.rules.specs.Receipt.{otcReceived};
+ghost use Rattle.rules.specs.Receipt.{otcReceived, droppedReceived};
 ghost use Rattle.rules.specs.Sending.{ownRoute, tagSent, otcSent};
 ghost use Rattle.settings.specs.Told.{toldTag, toldOtc};
+ghost use Rattle.communities.specs.Tags.{dropTest};
 ghost use Rattle.verdicts.specs.Judge.{ReceiptRule, SendingRule};
 
 // Flags of an attribute (RFC 4271 section 4.3): optional and transitive; partial too.
@@ -58,6 +62,16 @@ pub fn receipt_rule(session: Session, has: bool, otc: u32) -> u8
         return 2;
     }
     0
+}
+
+// The test of which communities receipt drops, by its number: every tag, or with both ends under one administration those above 2 (02, Q-11).
+pub fn received_test(session: Session) -> u8
+    ensures { λ r. ⌜ dropTest r ≡ droppedReceived session ⌝ }
+{
+    if one_administration(session) {
+        return ERRONEOUS_TAGS;
+    }
+    ALL_TAGS
 }
 
 // The AS that a new OTC names where one is wanted: 0 for none. Internal: no AS is 0.
@@ -126,14 +140,19 @@ pub fn new_flags(own: bool) -> u8
     OPTIONAL_TRANSITIVE_PARTIAL
 }
 
-// The state that sending tags a route with: 3 for no tag (01, Sending).
+// The state that sending tags a route with, towards an RS-Client, or with both ends under one administration towards any role: 3 for no tag
+// (01, Sending; 02, Q-11).
 pub fn sent_tag(session: Session, source: u8, state: u8) -> u8
     ensures { λ r. ⌜ toldTag r ≡ tagSent session source state ⌝ }
 {
     if remote_role(session.local_role) == RS_CLIENT {
         return state;
     }
-    UNAVAILABLE
+    if one_administration(session) {
+        state
+    } else {
+        UNAVAILABLE
+    }
 }
 
 // The AS that a new OTC names on sending: 0 for none (01, Sending). Internal: the session is valid.

@@ -1,30 +1,26 @@
 -- `c_api::bgp_receive` meets its contract: what `policy` promises, as numbers.
-use Rattle.rules.specs.Answers.{toldReceived}
-use Rattle.answers.proofs.Numbering.{thrown-number}
+use mathlib.Core.Path.{subst}
+use denote.Ref.{now}
+use Rattle.rules.specs.Answers.{toldReceived, thrownReceived, stateReceived}
+use Rattle.rules.specs.Receipt.{GotNumbered}
+use Rattle.rules.specs.declared.Session.{Session}
 use borrow.Author.Needs.{needs}
 use Rattle.c_api.proofs.bgp_receive.Statement.{statement}
 use Rattle.c_api.proofs.bgp_receive.Tie as tie
 
-receive-requires : tie.Need-receive-requires
-receive-requires c κs = search needs
-
-report-received-requires : tie.Need-report-received-requires
-report-received-requires c κs = search needs
-
-same-length : tie.Need-same-length
-same-length c = search needs
-
 returns : tie.Need-returns
 returns c =
-    let v = c .before .before .before .before .before in (
-      record {
-        told = toldReceived (v .receive .result);
-        leaves = v .receive .ensures .0;
-        answered = c .report-received .ensures .0;
-        beside = c .report-received .ensures .1;
-      },
-      thrown-number _ (c .report-received .ensures .0) (v .receive .ensures .1) (c .report-received .ensures .2),
-    )
+    let v = c .before .before .before .before .before .before in
+    let m = v .before .before in
+    let a = m .before .before .before .args in
+    let r = v .receive .result in
+    record {
+      told = toldReceived r;
+      thrown = thrownReceived r;
+      state = stateReceived r;
+      got = subst (λ (s : Session). GotNumbered s (now (a .block)) (now (a .out)) (toldReceived r) (thrownReceived r) (stateReceived r) (v .receive .last .1 .1 .0)) (m .session-of .ensures) (v .receive .ensures);
+      numbers = c .report-received .ensures;
+    }
 
 pub bgp-receive-spec : {M : Type 1} → statement M
-bgp-receive-spec = tie.close (tie.spec receive-requires report-received-requires same-length returns)
+bgp-receive-spec = tie.close (tie.spec (λ c κs. search needs) (λ c κs. search needs) (λ c κs. search needs) (λ c. search needs) returns)

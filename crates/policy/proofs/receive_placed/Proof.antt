@@ -12,20 +12,19 @@ use Rattle.rules.specs.Bytes.{oneOf, exists}
 use Rattle.rules.specs.Answers.{Check, answerNumber, number}
 use Rattle.rules.specs.Settings.{blockMax, sessionOk}
 use Rattle.rules.specs.Attributes.{Attribute, attributes}
-use Rattle.rules.specs.Changes.{isTag, thrownTold, newFlags, Leaves}
-use Rattle.rules.specs.Receipt.{receiptRules, receiptResult, receiptVerdict}
+use Rattle.rules.specs.Changes.{thrownTold, newFlags, Leaves}
+use Rattle.rules.specs.Receipt.{receiptRules, receiptResult, receiptVerdict, stateHandedOn}
 use Rattle.rules.specs.declared.Refusal.the-variants.{Ineligible}
 use Rattle.rules.proofs.Checked.{Late}
 use Rattle.settings.specs.Told.{toldTag}
-use Rattle.communities.specs.Tags.{dropTest}
 use Rattle.attributes.specs.declared.layout.Layout.{Layout}
 use Rattle.rewriting.specs.Plan.{ReadBlock}
 use Rattle.rewriting.specs.Stores.{toldOutput}
 use Rattle.verdicts.specs.Judge.{ruled, judged}
 use Rattle.rewriting.proofs.Thrown.{thrown-found}
-use Rattle.policy.specs.Placed.{toldPlaced, thrownPlaced}
+use Rattle.policy.specs.Placed.{toldPlaced, thrownPlaced, statePlaced}
 use Rattle.verdicts.proofs.Judging.{receipt-late}
-use Rattle.policy.proofs.Readings.{read-clean, has-found, otc-found}
+use Rattle.policy.proofs.Readings.{read-clean, has-found, otc-found, state-found}
 use Rattle.policy.proofs.Leaving.{rewritten-same, leaves-setting, leaves-length, leaves-fault, leaves-rule, leaves-output}
 use borrow.Author.Needs.{needs}
 use Rattle.policy.proofs.receive_placed.Statement.{statement}
@@ -76,68 +75,81 @@ flags-found : (c : tie.After-new-flags) → c .new-flags .result ≡ newFlags fa
 flags-found c = c .new-flags .ensures
 
 -- What the block stored, or that there was no room for it, says of receipt.
-output : (c : tie.After-store) → let s = start (passed (c .before .before .before .before)) in
+output : (c : tie.After-store) → let s = start (passed (c .before .before .before .before .before)) in
     Leaves (receiptVerdict (s .args .session) (block s)) (now (s .args .out)) (toldOutput (c .store .result)) (c .store .last .1 .1 .1 .1 .1 .1 .0)
-unfolding receiptVerdict receiptResult toldTag dropTest
+unfolding receiptVerdict receiptResult toldTag
 output c =
     let f = c .before .before in
     let o = f .before in
-    let q = o .before .before in
-    let r = passed (o .before) in
+    let t = o .before in
+    let q = t .before .before in
+    let r = passed (t .before) in
     let s = start r in
-    leaves-output (ok s) (block s) (rules s) (late s) (result s) (now (s .args .out)) (valid (r .before .before .before .before .before)) (clean r) (λ k. Ineligible k) (q .receipt-rule .result) (found q) (o .before .if3 .left)
-    (rewritten-same isTag (attributes (block s)) (flags-found f) refl (o .received-otc .ensures)) (c .store .ensures .0)
+    leaves-output (ok s) (block s) (rules s) (late s) (result s) (now (s .args .out)) (valid (r .before .before .before .before .before)) (clean r) (λ k. Ineligible k) (q .receipt-rule .result) (found q) (t .before .if3 .left)
+    (rewritten-same (attributes (block s)) (t .received-test .ensures) (flags-found f) refl (o .received-otc .ensures)) (c .store .ensures .0)
 
 returns : tie.Need-returns
-unfolding toldPlaced thrownPlaced receiptVerdict thrownTold answerNumber number oneOf exists
+unfolding toldPlaced thrownPlaced statePlaced receiptVerdict thrownTold stateHandedOn answerNumber number oneOf exists
 returns c =
     let s = c .before .before .before .before in
-    record { got = (leaves-setting (ok s) (block s) (rules s) (late s) (result s) (now (s .args .out)) (sym (c .before .session-ok .ensures) ∙ not-true _ (c .if1 .taken)), refl); path = tt }
+    record { got = record { got = leaves-setting (ok s) (block s) (rules s) (late s) (result s) (now (s .args .out)) (sym (c .before .session-ok .ensures) ∙ not-true _ (c .if1 .taken)); number = refl; stated = refl }; path = tt }
 
 returns-2 : tie.Need-returns-2
-unfolding toldPlaced thrownPlaced receiptVerdict thrownTold answerNumber number oneOf exists
+unfolding toldPlaced thrownPlaced statePlaced receiptVerdict thrownTold stateHandedOn answerNumber number oneOf exists
 returns-2 c =
     let e = c .before .before in
     let s = e .before .before .before .before in
-    record { got = (leaves-length (ok s) (block s) (rules s) (late s) (result s) (now (s .args .out)) (valid e) (sym (c .before .block-size-ok .ensures) ∙ not-true _ (c .if2 .taken)), refl); path = tt }
+    record { got = record { got = leaves-length (ok s) (block s) (rules s) (late s) (result s) (now (s .args .out)) (valid e) (sym (c .before .block-size-ok .ensures) ∙ not-true _ (c .if2 .taken)); number = refl; stated = refl }; path = tt }
 
 returns-3 : tie.Need-returns-3
-unfolding toldPlaced thrownPlaced receiptVerdict thrownTold answerNumber number oneOf exists
+unfolding toldPlaced thrownPlaced statePlaced receiptVerdict thrownTold stateHandedOn answerNumber number oneOf exists
 returns-3 c =
     let g = c .before .before .before .before in
     let e = g .before .before in
     let s = e .before .before .before .before in
-    record { got = (leaves-fault (ok s) (block s) (rules s) (late s) (result s) (now (s .args .out)) (valid e) (small g) (c .before .before .before .read .ensures) (c .before .reading .given .1), refl); path = tt }
+    record { got = record { got = leaves-fault (ok s) (block s) (rules s) (late s) (result s) (now (s .args .out)) (valid e) (small g) (c .before .before .before .read .ensures) (c .before .reading .given .1); number = refl; stated = refl }; path = tt }
 
 returns-4 : tie.Need-returns-4
-unfolding toldPlaced thrownPlaced receiptVerdict thrownTold answerNumber number oneOf exists
+unfolding toldPlaced thrownPlaced statePlaced receiptVerdict thrownTold stateHandedOn answerNumber number oneOf exists
 returns-4 c =
     let t = c .before .before in
     let q = t .before in
     let r = q .before .before .before .before in
     let s = start r in
-    record { got = (leaves-rule (ok s) (block s) (rules s) (late s) (result s) (now (s .args .out)) (valid (r .before .before .before .before .before)) (clean r) (λ k. Ineligible k) (q .receipt-rule .result) (found q) (t .if3 .taken), ap some (thrown-found (clean r) (c .before .value2 .ensures) (c .sift .ensures .1))); path = tt }
+    record { got = record { got = leaves-rule (ok s) (block s) (rules s) (late s) (result s) (now (s .args .out)) (valid (r .before .before .before .before .before)) (clean r) (λ k. Ineligible k) (q .receipt-rule .result) (found q) (t .if3 .taken); number = ap some (thrown-found (clean r) (c .before .value2 .ensures) (c .sift .ensures .1)); stated = refl }; path = tt }
 
 received-otc-requires : tie.Need-received-otc-requires
-received-otc-requires c κs = valid (passed c .before .before .before .before .before)
+received-otc-requires c κs = valid (passed (c .before) .before .before .before .before .before)
 
 store-requires : tie.Need-store-requires
-store-requires c κs = clean (passed (c .before .before .before))
+store-requires c κs = clean (passed (c .before .before .before .before))
 
 returns-5 : tie.Need-returns-5
-unfolding toldPlaced thrownPlaced toldOutput thrownTold answerNumber number oneOf exists
-returns-5 c = record { got = (rw (c .enum-told .given .1) at (output (c .before .before .before .before)), refl); path = tt }
+unfolding toldPlaced thrownPlaced statePlaced toldOutput thrownTold stateHandedOn answerNumber number oneOf exists
+returns-5 c = record { got = record { got = rw (c .enum-told .given .1) at (output (c .before .before .before .before)); number = refl; stated = refl }; path = tt }
 
 returns-6 : tie.Need-returns-6
-unfolding toldPlaced thrownPlaced toldOutput thrownTold answerNumber number oneOf exists
+unfolding toldPlaced thrownPlaced statePlaced toldOutput thrownTold stateHandedOn answerNumber number oneOf exists
 returns-6 c =
-    let m = c .before .before .before .before .before in
-    let w = clean (passed (m .before .before .before .before)) in
-    record { got = (rw (c .before .output .given .1) at (output m), ap some (rw (c .before .output .given .1) at (m .store .ensures .1))); path = (w .clean, ap (λ (l : Layout). l .«as_path») (w .is)) }
+    let v = c .before in
+    let g = v .before .before in
+    let m = g .before .before .before .before in
+    let t = m .before .before .before .before in
+    let w = clean (passed (t .before)) in
+    record {
+      got =
+          record {
+            got = rw (g .output .given .1) at (output m);
+            number = ap some (rw (g .output .given .1) at (m .store .ensures .1));
+            stated = ap some (state-found w (start (passed (t .before)) .args .session) (v .value3 .ensures) (t .received-test .ensures) (c .state-left .ensures));
+          };
+      path = (w .clean, ap (λ (l : Layout). l .«as_path») (w .is));
+    }
 
 pub receive-placed-spec : {M : Type 1} → statement M
 receive-placed-spec =
     tie.close
     (tie.spec (λ c κs. search needs) returns (λ c κs. search needs) returns-2 (λ c κs. search needs) (λ c. search needs) returns-3
-    (λ c. search needs) (λ c κs. search needs) (λ c κs. search needs) (λ c κs. search needs) (λ c κs. search needs) (λ c κs. search needs) returns-4 received-otc-requires (λ c κs. search needs) store-requires
-    (λ c. search needs) (λ c. search needs) (λ c. search needs) returns-5 (λ c. search needs) returns-6)
+    (λ c. search needs) (λ c κs. search needs) (λ c κs. search needs) (λ c κs. search needs) (λ c κs. search needs) (λ c κs. search needs) returns-4
+    (λ c κs. search needs) received-otc-requires (λ c κs. search needs) store-requires (λ c. search needs) (λ c. search needs) (λ c κs. search needs) (λ c κs. search needs)
+    (λ c. search needs) returns-5 (λ c. search needs) returns-6)

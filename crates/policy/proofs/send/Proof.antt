@@ -1,5 +1,5 @@
 -- `send` meets its contract: each way out by its law, in the order of answers.
-use mathlib.Core.Path.{_≡_, sym, _∙_}
+use mathlib.Core.Path.{_≡_, refl, sym, _∙_}
 use mathlib.Core.Bool.{Bool, true, _&&_}
 use mathlib.Core.List.{List}
 use Prim.Native.Nat.{ℕ}
@@ -10,7 +10,7 @@ use borrow.Author.Tests.{not-true, not-false}
 use Rattle.rules.specs.Answers.{Check, toldAdvertised}
 use Rattle.rules.specs.Settings.{blockMax, sessionOk, sourceOk, stateOk}
 use Rattle.rules.specs.Attributes.{Attribute, attributes}
-use Rattle.rules.specs.Changes.{isTag, newFlags, Leaves}
+use Rattle.rules.specs.Changes.{newFlags, Leaves}
 use Rattle.rules.specs.Sending.{ownRoute, sendingRules, sendingResult, sendingVerdict}
 use Rattle.rules.specs.declared.Refusal.the-variants.{Withheld}
 use Rattle.rules.proofs.Lists.{and-left}
@@ -79,7 +79,7 @@ output c =
     let r = passed (o .before .before) in
     let s = start r in
     leaves-output (ok s) (block s) (rules s) (late s) (result s) (now (s .args .out)) (valid (r .before .before .before .before .before)) (clean r) (λ k. Withheld k) (q .sending-rule .result) (found q) (o .before .before .if3 .left)
-    (rewritten-same isTag (attributes (block s)) (flags-found f) (o .before .sent-tag .ensures) (o .sent-otc .ensures)) (c .store .ensures .0)
+    (rewritten-same (attributes (block s)) refl (flags-found f) (o .before .sent-tag .ensures) (o .sent-otc .ensures)) (c .store .ensures .0)
 
 returns : tie.Need-returns
 unfolding toldAdvertised sendingVerdict

@@ -66,7 +66,7 @@ refused-reply : (m : tie.After-receive-placed) (made : List ℕ) {r : Refusal} �
     → let a = start m .args in Replies (receiptFrame (a .width) (a .session) (vrps (a .width) (now (a .table))) (now (a .frame))) made (Refused r)
 refused-reply m made z =
     let a = start m .args in
-    receipt-refused (a .width) (a .session) (now (a .table)) (now (a .frame)) (long m) (fits m) (block-is m) (lent m) (m .receive-placed .ensures .got .0) made z
+    receipt-refused (a .width) (a .session) (now (a .table)) (now (a .frame)) (long m) (fits m) (block-is m) (lent m) (m .receive-placed .ensures .got .got) made z
 
 returns-3 : tie.Need-returns-3
 unfolding toldPlaced thrownPlaced answerNumber
@@ -74,7 +74,7 @@ returns-3 c =
     let p = c .before .before in
     let m = p .before .before .before .before in
     rw (c .dashed3 .ensures)
-    (tells-dash _ _ (block-is m) (refused-reply m _ (ap toldPlaced (p .placed .given .1))) (rw (p .placed .given .1) at (m .receive-placed .ensures .got .1)))
+    (tells-dash _ _ (block-is m) (refused-reply m _ (ap toldPlaced (p .placed .given .1))) (rw (p .placed .given .1) at (m .receive-placed .ensures .got .number)))
 
 returns-4 : tie.Need-returns-4
 unfolding toldPlaced thrownPlaced answerNumber replied
@@ -82,20 +82,20 @@ returns-4 c =
     let p = c .before .before in
     let m = p .before .before .before .before in
     rw (c .numbered .ensures)
-    (tells-number _ _ (block-is m) (refused-reply m _ (ap toldPlaced (p .placed2 .given .1))) (rw (p .placed2 .given .1) at (m .receive-placed .ensures .got .1)))
+    (tells-number _ _ (block-is m) (refused-reply m _ (ap toldPlaced (p .placed2 .given .1))) (rw (p .placed2 .given .1) at (m .receive-placed .ensures .got .number)))
 
 words-requires : tie.Need-words-requires
 words-requires c κs =
     let m = c .before .before .before .before .before .before .before .before in
     lent-whole (start m .pre .0) (now (start m .args .frame)) 2 (long m)
 
-add-t35 : tie.Need-add-t35
+add-t37 : tie.Need-add-t37
 unfolding toldPlaced
-add-t35 c =
+add-t37 c =
     let p = c .before .before .before .before .before .before in
     let m = p .before .before .before .before in
     let a = start m .args in
-    let n = receipt-fits (a .width) (a .session) (now (a .table)) (now (a .frame)) (long m) (fits m) (block-is m) (lent m) (m .receive-placed .ensures .got .0) (ap toldPlaced (p .placed3 .given .1)) in
+    let n = receipt-fits (a .width) (a .session) (now (a .table)) (now (a .frame)) (long m) (fits m) (block-is m) (lent m) (m .receive-placed .ensures .got .got) (ap toldPlaced (p .placed3 .given .1)) in
     omega arith
 
 returns-5 : tie.Need-returns-5
@@ -108,10 +108,10 @@ returns-5 c =
     let path = rw (p .placed3 .given .1) at (m .receive-placed .ensures .path) in
     rw (c .numbered2 .ensures)
     (tells-number (a .width) (now (a .frame)) (block-is m)
-    (receipt-done (a .width) (a .session) (now (a .table)) (now (a .frame)) (long m) (fits m) (block-is m) (lent m) (m .receive-placed .ensures .got .0) (ap toldPlaced (p .placed3 .given .1))
+    (receipt-done (a .width) (a .session) (now (a .table)) (now (a .frame)) (long m) (fits m) (block-is m) (lent m) (m .receive-placed .ensures .got .got) (ap toldPlaced (p .placed3 .given .1))
     (path .0) (path .1) (n .before .before .before .before .value .ensures) (lent-read (start m .pre .0) (now (a .frame)) 2 (long m) _ (n .before .words .ensures))
     (n .scan-parts .ensures ∙ ap (stateIn (a .width) (vrps (a .width) (now (a .table))) _ _) (n .before .before .before .path-origin .ensures)) (now (a .made)) _ (start m .pre .2))
-    (rw (p .placed3 .given .1) at (m .receive-placed .ensures .got .1)))
+    (rw (p .placed3 .given .1) at (m .receive-placed .ensures .got .number)))
 
 pub receipt-frame-spec : {M : Type 1} → statement M
 receipt-frame-spec =
@@ -120,5 +120,5 @@ receipt-frame-spec =
     returns-2 (λ c. search needs) (λ c. search needs) (λ c. search needs) (λ c. search needs) (λ c. search needs) (λ c. search needs)
     (λ c κs. search needs) (λ c. search needs) (λ c κs. search needs) (λ c. search needs) returns-3 (λ c. search needs)
     (λ c κs. search needs) (λ c. search needs) returns-4 (λ c. search needs) (λ c κs. search needs) (λ c κs. search needs)
-    (λ c. search needs) (λ c. search needs) (λ c. search needs) words-requires (λ c κs. search needs) (λ c. search needs) add-t35
+    (λ c. search needs) (λ c. search needs) (λ c. search needs) words-requires (λ c κs. search needs) (λ c. search needs) add-t37
     (λ c κs. search needs) (λ c. search needs) returns-5)

@@ -6,6 +6,7 @@ use lib.ListN.{getD}
 use Rattle.rules.specs.Answers.{toldOpened}
 use Rattle.rules.specs.Settings.{sessionOk}
 use Rattle.rules.specs.Roles.{openSession}
+use Rattle.rules.specs.Desk.{sessionHead}
 use Rattle.octets.proofs.Slices.{tail-is}
 use Rattle.frames.proofs.Framing.{session-short, session-setting, session-refused, session-opened}
 use borrow.Author.Needs.{needs}
@@ -28,7 +29,7 @@ returns-3 c =
     let a = c .before .before .before .before .before .before .before .before .before .before .before .before .before .args in
     let f = now (a .frame) in
     session-refused f (now (a .made)) (c .before .before .before .before .before .before .before .before .before .before .if1 .left) (sym (ap sessionOk (c .before .before .before .before .before .before .before .before .before .session-in .ensures)) ∙ sym (c .before .before .before .before .before .before .before .before .session-ok .ensures) ∙ not-false _ (c .before .before .before .before .before .before .before .if2 .left))
-    (sym (ap toldOpened (c .before .opened .given .1)) ∙ c .before .before .before .open-session .ensures ∙ ap (openSession (getD f 9 0) (getD f 10 0)) (tail-is f 12))
+    (sym (ap toldOpened (c .before .opened .given .1)) ∙ c .before .before .before .open-session .ensures ∙ ap (openSession (getD f 9 0) (getD f 10 0)) (tail-is f sessionHead))
 
 returns-4 : tie.Need-returns-4
 unfolding toldOpened
@@ -37,7 +38,7 @@ returns-4 c =
     let a = o .args in
     let f = now (a .frame) in
     session-opened f (now (a .made)) (c .before .before .before .before .before .before .before .before .before .before .if1 .left) (sym (ap sessionOk (c .before .before .before .before .before .before .before .before .before .session-in .ensures)) ∙ sym (c .before .before .before .before .before .before .before .before .session-ok .ensures) ∙ not-false _ (c .before .before .before .before .before .before .before .if2 .left)) (o .pre)
-    (sym (ap toldOpened (c .before .opened2 .given .1)) ∙ c .before .before .before .open-session .ensures ∙ ap (openSession (getD f 9 0) (getD f 10 0)) (tail-is f 12))
+    (sym (ap toldOpened (c .before .opened2 .given .1)) ∙ c .before .before .before .open-session .ensures ∙ ap (openSession (getD f 9 0) (getD f 10 0)) (tail-is f sessionHead))
 
 pub session-frame-spec : {M : Type 1} → statement M
 session-frame-spec =

@@ -19,10 +19,17 @@ mode-ok-requires c κs = search needs
 both-requires-2 : tie.Need-both-requires-2
 both-requires-2 c κs = search needs
 
+administration-ok-requires : tie.Need-administration-ok-requires
+administration-ok-requires c κs = search needs
+
+both-requires-3 : tie.Need-both-requires-3
+both-requires-3 c κs = search needs
+
 returns : tie.Need-returns
 unfolding sessionOk
 returns c =
-    simp (c .both2 .ensures, c .before .mode-ok .ensures, c .before .before .both .ensures, c .before .before .before .role-ok .ensures, c .before .before .before .before .ases-ok .ensures)
+    let m = c .before .before in
+    simp (c .both3 .ensures, c .before .administration-ok .ensures, m .both2 .ensures, m .before .mode-ok .ensures, m .before .before .both .ensures, m .before .before .before .role-ok .ensures, m .before .before .before .before .ases-ok .ensures)
 
 pub session-ok-spec : {M : Type 1} → statement M
-session-ok-spec = tie.close (tie.spec ases-ok-requires role-ok-requires both-requires mode-ok-requires both-requires-2 returns)
+session-ok-spec = tie.close (tie.spec ases-ok-requires role-ok-requires both-requires mode-ok-requires both-requires-2 administration-ok-requires both-requires-3 returns)
