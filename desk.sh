@@ -15,7 +15,8 @@ a fourth field: on answers 0 and 1 how many tags of the block, communities that 
 
 Frames (bytes in brackets)
   01  session   local AS [4], remote AS [4], local role [1], strict [1], mode [1],
-                OPEN parameters [0 to 255]            result: the remote role
+                one administration [1], OPEN parameters [0 to 255]
+                                                      result: the remote role
   02  receipt of an IPv4 route
                 prefix length [1], prefix [4], block [0 to 4,073]
                                                       result: state and block
@@ -29,7 +30,12 @@ Frames (bytes in brackets)
 
   role    0 Provider, 1 RS, 2 RS-Client, 3 Customer, 4 Peer
   strict  0 or 1: whether the neighbour must send its role
-  mode    0 default (as 2), 1 tag, 2 tag and withhold invalid routes, 3 prioritise (as 1)
+  mode    0 default (as 2), 1 tag, 2 tag and withhold invalid routes, 3 prioritise (as 1);
+          towards an RS-Client
+  one administration
+          1: both ends are under one, and tags cross: a receipt keeps tags of 0 to 2, and
+          a sending tags towards any role; else 0. Not 1 where the local role is RS: a
+          route server must strip tags
   source  FF own route, else the role of the neighbour it was learned from
   state   0 valid, 1 not found, 2 invalid, 3 unavailable
 

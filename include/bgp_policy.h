@@ -11,7 +11,7 @@
 #include <stdint.h>
 
 /* The version of this interface; the pkg-config file has it too. */
-#define BGP_POLICY_VERSION "0.6.0"
+#define BGP_POLICY_VERSION "0.7.0"
 
 #ifdef __cplusplus
 extern "C" {
@@ -38,12 +38,16 @@ extern "C" {
  *
  * Of receipt and sending
  * local_as, remote_as   the two AS numbers of the session: not 0, and not equal
+ * one_administration    1 where both ends are under one administration and tags cross between them, else 0, the default for EBGP
+ *                       peers (RFC 8097 section 2). It may not be 1 where local_role is 1: a route server must strip tags
  * out, out_len          the output buffer: where it begins, and how many bytes it has; 4,073 is always enough
  *
  * Of receipt and received tag
  * thrown_out            where it goes how many tags of the block have a value above 2: such a tag is erroneous and tells no state
  *                       (RFC 8097 section 2, which wants it logged). Receipt tells it on answers 0 and 1, the received tag on
  *                       answer 0; on every other answer it is 0
+ * state (of receipt)    where the greatest state goes that a tag kept tells, for a caller whose own is 3 for want of a VRP table;
+ *                       3 where none is kept, so always with one_administration 0, and on every answer but 0
  *
  * Of receipt, sending, origin state and received tag
  * block, block_len      the attribute block: where it begins, and how many bytes it has, at most 4,073
@@ -80,8 +84,8 @@ extern "C" {
  *
  * Settings of any value, parameters, tables, records and blocks of any bytes and buffers and memories of any length have an
  * answer. But every pointer must be usable (never NULL, also where the length is 0), out must not overlap block, memory must
- * not overlap table or record, and *beside, *thrown_out, *left and *visited must lie in none of the bytes handed in or out, nor
- * be the same.
+ * not overlap table or record, and *beside, *thrown_out, *state, *left and *visited must lie in none of the bytes handed in or
+ * out, nor be the same.
  *
  * Answers, and what *beside becomes
  *
@@ -122,9 +126,9 @@ extern "C" {
  *
  * Where several apply, opening gives the first of 5, 6, 8, 4, receipt and sending the first of 5, 6, 3, 1 or 2, 7, origin
  * state the first of 5, 6, 9, 3, choosing the first of 5, 6, 10, 11, and build and insertion the first of 6, 9, 7.
- * Every call sets *beside, and *thrown_out, *left or *visited where it takes one. Only answer 0 stores anything in out, and then
- * the bytes past the length in *beside stay as they were. Only answer 0 stores anything in memory, but for one exception: a build
- * with answer 7 leaves it all zeros.
+ * Every call sets *beside, and *thrown_out, *state, *left or *visited where it takes them. Only answer 0 stores anything in out,
+ * and then the bytes past the length in *beside stay as they were. Only answer 0 stores anything in memory, but for one exception:
+ * a build with answer 7 leaves it all zeros.
  */
 
 /* Opening: whether the role that the other end names agrees with this end's, and which role it has. */
@@ -134,25 +138,25 @@ uint8_t bgp_open(uint8_t local_role, uint8_t strict,
 
 /*
  * Receipt: what this end keeps of a block that came from the other end. A new OTC begins E0, with the Partial bit (RFC 4271
- * section 5). Every tag goes; how many of them were erroneous is told, also of a route that is ineligible.
+ * section 5). Every tag goes; with one_administration 1 only those above 2 go, and the others stay as they are. How many are
+ * above 2, and so erroneous, is told with either, also of a route that is ineligible.
  */
-uint8_t bgp_receive(uint32_t local_as, uint32_t remote_as, uint8_t local_role, uint8_t mode,
+uint8_t bgp_receive(uint32_t local_as, uint32_t remote_as, uint8_t local_role, uint8_t mode, uint8_t one_administration,
                     const uint8_t *block, size_t block_len,
-                    uint8_t *out, size_t out_len,
-                    size_t *beside, size_t *thrown_out);
+                    uint8_t *out, size_t out_len, size_t *beside, size_t *thrown_out, size_t *state);
 
 /*
- * Sending: what goes out to the other end. A new OTC, and a new attribute for the tag, begin C0 on an own route, else E0, with
- * the Partial bit (RFC 4271 section 5).
+ * Sending: what goes out to the other end. Every tag goes, and one of the state, unless that is 3, is added towards an RS-Client,
+ * with one_administration 1 towards any role; an invalid route is then withheld in no mode, since the other end is no RS-Client.
+ * A new OTC, and a new attribute for the tag, begin C0 on an own route, else E0, with the Partial bit (RFC 4271 section 5).
  *
  * source   255 for an own route, else the role (0 to 4) of the neighbour that the route was learned from
  * state    the origin validation state: 0 valid, 1 not found, 2 invalid, 3 unavailable
  */
-uint8_t bgp_send(uint32_t local_as, uint32_t remote_as, uint8_t local_role, uint8_t mode,
+uint8_t bgp_send(uint32_t local_as, uint32_t remote_as, uint8_t local_role, uint8_t mode, uint8_t one_administration,
                  uint8_t source, uint8_t state,
                  const uint8_t *block, size_t block_len,
-                 uint8_t *out, size_t out_len,
-                 size_t *beside);
+                 uint8_t *out, size_t out_len, size_t *beside);
 
 /*
  * Origin state of an IPv4 route: whether the VRPs of a table say that the AS at the end of the block's AS_PATH may originate the

@@ -1,6 +1,6 @@
 /*
- * What the checks of every.c and index.c share: the bytes handed in and the output buffer, texts of hex digits, and the check of
- * a call.
+ * What the checks of every.c and index.c share: the bytes handed in and the output buffer, attribute blocks and other texts of hex
+ * digits, and the check of a call.
  */
 #include <stdint.h>
 #include <stdio.h>
@@ -11,9 +11,22 @@
 #define MARK 0xA5       /* in every byte that no call has written */
 #define UNSET ((size_t)-1)
 
+/* Attribute blocks, in hex */
+#define OWN "40010100400200"                   /* ORIGIN and an empty AS_PATH */
+#define PATH "4001010040020602010000FBFE"      /* the same with the path 64510 */
+#define BY_64500 "4001010040020602010000FBF4"  /* with the path 64500 */
+#define FINAL_SET "4001010040020601010000FBF4" /* with the set of 64500 */
+#define OTC "C02304"                           /* the header of an OTC */
+#define PARTIAL_OTC "E02304"                   /* of one that its originator did not attach */
+#define TAG "43000000000000"                   /* a tag but for its state */
+#define OTHER "0002000000000000"               /* a community that is no tag */
+#define FULL OWN "D0630FDE"                    /* with zeros after it: 4,073 bytes */
+#define OVER OWN "D0630FDF"                    /* 4,074 */
+
 static uint8_t in[2][TABLE_MAX], kept[2][TABLE_MAX]; /* what is handed in, and a copy */
 static uint8_t out[BLOCK_MAX + 16], after[BLOCK_MAX + 16];
 static size_t beside, left; /* `left` also takes the other number that receipt, the tag reader and a look-up tell */
+static size_t handed_on, want_state; /* the state that receipt hands on, and the one wanted */
 static unsigned passed, failed;
 
 /* The bytes that hex digits spell go to `to`; gives how many there are. */
@@ -53,7 +66,7 @@ static size_t hand(int which, const char *digits)
     length = spell(digits, in[which]);
     memcpy(kept[which], in[which], TABLE_MAX);
     memset(out, MARK, sizeof out);
-    beside = left = UNSET;
+    beside = left = handed_on = want_state = UNSET;
     return length;
 }
 
@@ -64,7 +77,7 @@ static void check(const char *function, const char *name, unsigned answer,
     int ok;
     memset(after, MARK, sizeof after);
     spell(stored, after);
-    ok = answer == want && beside == want_beside && left == want_left &&
+    ok = answer == want && beside == want_beside && left == want_left && handed_on == want_state &&
          memcmp(out, after, sizeof out) == 0 && memcmp(in, kept, sizeof in) == 0;
     printf("%s: %s: %s: %u beside %lu\n", ok ? "ok" : "FAILED", function, name, answer, (unsigned long)beside);
     if (ok) {

@@ -7,40 +7,43 @@
 #include <bgp_policy.h>
 #include <netinet/in.h>
 
-/* Attribute blocks, in hex */
-#define OWN "40010100400200"                   /* ORIGIN and an empty AS_PATH */
-#define PATH "4001010040020602010000FBFE"      /* the same with the path 64510 */
-#define BY_64500 "4001010040020602010000FBF4"  /* with the path 64500 */
-#define FINAL_SET "4001010040020601010000FBF4" /* with the set of 64500 */
-#define OTC "C02304"                           /* the header of an OTC */
-#define PARTIAL_OTC "E02304"                   /* of one that its originator did not attach */
-#define TAG "43000000000000"                   /* a tag but for its state */
-#define OTHER "0002000000000000"               /* a community that is no tag */
-#define FULL OWN "D0630FDE"                    /* with zeros after it: 4,073 bytes */
-#define OVER OWN "D0630FDF"                    /* 4,074 */
-
 static void opening(const char *name, uint8_t role, uint8_t strict, const char *parameters, unsigned want, size_t want_beside)
 {
     size_t n = hand(0, parameters);
     check("bgp_open", name, bgp_open(role, strict, in[0], n, &beside), want, want_beside, UNSET, "");
 }
 
-/* Receipt at AS 64500 from AS 64510, with how many tags are thrown out; on answer 0 `stored` is the new block, else "". */
-static void receipt(const char *name, uint8_t role, uint8_t mode, const char *block, size_t room,
-                    unsigned want, size_t want_beside, size_t thrown_out, const char *stored)
+/* Receipt at AS 64500 from AS 64510, with how many tags are thrown out and the state handed on; `one` is 1 under one
+   administration. On answer 0 `stored` is the new block, else "". */
+static void owned_receipt(const char *name, uint8_t role, uint8_t mode, uint8_t one, const char *block, size_t room,
+                          unsigned want, size_t want_beside, size_t thrown_out, size_t state, const char *stored)
 {
     size_t n = hand(0, block);
-    check("bgp_receive", name, bgp_receive(64500, 64510, role, mode, in[0], n, out, room, &beside, &left),
+    want_state = state;
+    check("bgp_receive", name, bgp_receive(64500, 64510, role, mode, one, in[0], n, out, room, &beside, &left, &handed_on),
           want, want_beside, thrown_out, stored);
 }
 
+/* Receipt from another administration, which hands on no state. */
+static void receipt(const char *name, uint8_t role, uint8_t mode, const char *block, size_t room,
+                    unsigned want, size_t want_beside, size_t thrown_out, const char *stored)
+{
+    owned_receipt(name, role, mode, 0, block, room, want, want_beside, thrown_out, 3, stored);
+}
+
 /* Sending by AS 64500 to AS 64510, likewise. */
+static void owned_sending(const char *name, uint8_t role, uint8_t mode, uint8_t one, uint8_t source, uint8_t state,
+                          const char *block, size_t room, unsigned want, size_t want_beside, const char *stored)
+{
+    size_t n = hand(0, block);
+    check("bgp_send", name, bgp_send(64500, 64510, role, mode, one, source, state, in[0], n, out, room, &beside),
+          want, want_beside, UNSET, stored);
+}
+
 static void sending(const char *name, uint8_t role, uint8_t mode, uint8_t source, uint8_t state, const char *block, size_t room,
                     unsigned want, size_t want_beside, const char *stored)
 {
-    size_t n = hand(0, block);
-    check("bgp_send", name, bgp_send(64500, 64510, role, mode, source, state, in[0], n, out, room, &beside),
-          want, want_beside, UNSET, stored);
+    owned_sending(name, role, mode, 0, source, state, block, room, want, want_beside, stored);
 }
 
 static void origin(const char *name, uint8_t length, uint32_t prefix, const char *table, const char *block,
@@ -87,6 +90,40 @@ static void comparing(const char *name, const char *first, const char *second, u
 {
     size_t m = hand(0, first), n = hand(1, second);
     check("bgp_better", name, bgp_better(in[0], m, 0, 1, 7, in[1], n, state, 2, 7, &beside), want, want_beside, UNSET, "");
+}
+
+/* Under one administration receipt keeps tags of 0 to 2, which tell the state, and sending tags towards any role. */
+static void one_owner(void)
+{
+    static const char tags[] = OWN "C01018" TAG "01" TAG "07" TAG "00";
+    owned_receipt("one owner, tags 1, 7 and 0", 0, 1, 1, tags, BLOCK_MAX, 0, 26, 1, 1, OWN "C01010" TAG "01" TAG "00");
+    owned_receipt("one owner, a byte too little", 0, 1, 1, tags, 25, 7, 0, 0, 3, "");
+    owned_receipt("two owners, tags 1, 7 and 0", 0, 1, 0, tags, BLOCK_MAX, 0, 7, 1, 3, OWN);
+    owned_receipt("one owner, tag 0", 3, 1, 1, OWN "C01008" TAG "00", BLOCK_MAX, 0, 25, 0, 0,
+                  OWN "C01008" TAG "00" PARTIAL_OTC "0000FBFE");
+    owned_receipt("one owner, tag 2 of an RS", 2, 1, 1, OWN "C01008" TAG "02" OTC "0000FBFE", BLOCK_MAX, 0, 25, 0, 2,
+                  OWN "C01008" TAG "02" OTC "0000FBFE");
+    owned_receipt("one owner, tag 3 alone", 0, 1, 1, OWN "C01008" TAG "03", BLOCK_MAX, 0, 7, 1, 3, OWN);
+    owned_receipt("one owner, no tag", 0, 1, 1, OWN, BLOCK_MAX, 0, 7, 0, 3, OWN);
+    owned_receipt("one owner, a leak with tags 1 and 7", 0, 1, 1, OWN "C01010" TAG "01" TAG "07" OTC "0000FBFE", BLOCK_MAX,
+                  1, 1, 1, 3, "");
+    owned_receipt("one owner, no ORIGIN", 0, 1, 1, "400200C01008" TAG "00", BLOCK_MAX, 3, 3, 0, 3, "");
+    owned_receipt("one owner at a route server", 1, 1, 1, OWN, BLOCK_MAX, 5, 0, 0, 3, "");
+    owned_receipt("byte 2", 0, 1, 2, OWN, BLOCK_MAX, 5, 0, 0, 3, "");
+    owned_receipt("byte 2, 4,074 bytes", 0, 1, 2, filled(OVER, 4074), sizeof out, 5, 0, 0, 3, "");
+
+    owned_sending("one owner, valid, to a Provider", 3, 1, 1, 255, 0, OWN, BLOCK_MAX, 0, 18, OWN "C01008" TAG "00");
+    owned_sending("one owner, invalid, to a Peer, mode 2", 4, 2, 1, 3, 2, OWN "C01008" TAG "00", BLOCK_MAX, 0, 25,
+                  OWN "E01008" TAG "02" PARTIAL_OTC "0000FBF4");
+    owned_sending("one owner, invalid, to a Customer, mode 0", 0, 0, 1, 255, 2, OWN, BLOCK_MAX, 0, 25,
+                  OWN "C01008" TAG "02" OTC "0000FBF4");
+    owned_sending("one owner, not found, to an RS", 2, 1, 1, 3, 1, OWN "C01010" OTHER TAG "07", BLOCK_MAX, 0, 26,
+                  OWN "C01010" OTHER TAG "01");
+    owned_sending("one owner, unavailable, to a Peer", 4, 1, 1, 255, 3, OWN "C01008" TAG "00", BLOCK_MAX, 0, 14, OWN OTC "0000FBF4");
+    owned_sending("one owner, a byte too little", 3, 1, 1, 255, 0, OWN, 17, 7, 0, "");
+    owned_sending("one owner, from a Provider to a Peer", 4, 1, 1, 0, 0, OWN, BLOCK_MAX, 2, 2, "");
+    owned_sending("one owner at a route server", 1, 1, 1, 255, 0, OWN, BLOCK_MAX, 5, 0, "");
+    owned_sending("byte 255", 4, 1, 255, 255, 0, OWN, BLOCK_MAX, 5, 0, "");
 }
 
 int main(void)
@@ -151,6 +188,7 @@ int main(void)
     sending("4,074 bytes", 3, 1, 255, 3, filled(OVER, 4074), sizeof out, 6, 0, "");
     sending("an OTC of 3 bytes", 4, 1, 255, 3, OWN "C02303000001", BLOCK_MAX, 3, 5, "");
     sending("source 5", 4, 1, 5, 3, OWN, BLOCK_MAX, 5, 0, "");
+    one_owner();
 
     origin("P6, 10.0.16.0/20", 20, 0x0A001000, vrp, BY_64500, 0, 0);
     origin("P7, 10.0.16.0/21", 21, 0x0A001000, vrp, BY_64500, 0, 2);

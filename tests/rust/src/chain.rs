@@ -1,7 +1,7 @@
 //! Chains of hops, each a sending and then a receipt on one session: run through an implementation, and seeded.
 use crate::counterpart;
 use crate::generate::{attributes, block, encode, filled, Random, ASNS};
-use crate::sides::{unnumbered, Side, Stored};
+use crate::sides::{as_receipt, Side, Stored};
 use bgp_policy::{Session, BLOCK_MAX, OWN_ROUTE};
 
 /// A hop: the session as each of its ends sees it, and the state that the sending is handed.
@@ -13,19 +13,22 @@ pub struct Hop {
 }
 
 impl Hop {
-    /// A hop between two ASes, the sender's first, in the sender's role, with the mode of each end.
-    pub fn new([sender, receiver]: [u32; 2], role: u8, modes: [u8; 2], state: u8) -> Self {
+    /// A hop between two ASes, the sender's first, in the sender's role, with the mode of each end and each end's byte for one
+    /// administration.
+    pub fn new(ases: [u32; 2], role: u8, modes: [u8; 2], bytes: [u8; 2], state: u8) -> Self {
         let sending = Session {
-            local_as: sender,
-            remote_as: receiver,
+            local_as: ases[0],
+            remote_as: ases[1],
             local_role: role,
             mode: modes[0],
+            one_administration: bytes[0],
         };
         let receiving = Session {
-            local_as: receiver,
-            remote_as: sender,
+            local_as: ases[1],
+            remote_as: ases[0],
             local_role: counterpart(role),
             mode: modes[1],
+            one_administration: bytes[1],
         };
         Hop {
             sending,
@@ -58,7 +61,7 @@ pub fn run(
                 Some(None) => return calls,
             };
             let call = Stored::by(&buffer(), |out| match receipt {
-                false => unnumbered((side.send)(hop.sending, source, hop.state, block, out)),
+                false => as_receipt((side.send)(hop.sending, source, hop.state, block, out)),
                 true => (side.receive)(hop.receiving, block, out),
             });
             calls.push(call);
@@ -95,7 +98,17 @@ pub fn end(originated: &[u8], calls: &[Stored]) -> End {
     }
 }
 
-/// Hops with these sender's roles, each from the AS where the last one ended, in any states, and in one of `modes` at each end.
+/// Whether an end in a role takes the session for one under one administration: 0 or 1, free of what the other end takes it for, and 0
+/// at a route server.
+pub fn one_administration(random: &mut Random, local_role: u8) -> u8 {
+    match local_role {
+        1 => 0,
+        _ => random.below(2) as u8,
+    }
+}
+
+/// Hops with these sender's roles, each from the AS where the last one ended, in any states, in one of `modes` at each end, and with
+/// a byte for one administration at each end.
 pub fn hops(random: &mut Random, roles: &[u8], modes: &[u8]) -> Vec<Hop> {
     let mut at = random.pick(&ASNS);
     let mut hops = Vec::new();
@@ -107,8 +120,15 @@ pub fn hops(random: &mut Random, roles: &[u8], modes: &[u8]) -> Vec<Hop> {
                 false => random.pick(&ASNS),
             };
         }
-        let ends = [random.pick(modes), random.pick(modes)];
-        hops.push(Hop::new([at, next], *role, ends, random.below(4) as u8));
+        let modes = [random.pick(modes), random.pick(modes)];
+        let bytes = [*role, counterpart(*role)].map(|role| one_administration(random, role));
+        hops.push(Hop::new(
+            [at, next],
+            *role,
+            modes,
+            bytes,
+            random.below(4) as u8,
+        ));
         at = next;
     }
     hops

@@ -5,6 +5,7 @@ pub mod fast;
 pub mod generate;
 pub mod indexing;
 pub mod lines;
+pub mod order;
 pub mod reference;
 pub mod shapes;
 pub mod sides;

@@ -1,7 +1,7 @@
 //! The lines of ../vectors; ../vectors/README.md says what they hold.
 use crate::sides::{Side, SIDES};
 use crate::{expected_buffer, hex, patterns, shown};
-use bgp_policy::BLOCK_MAX;
+use bgp_policy::{Receipt, BLOCK_MAX};
 use std::path::{Path, PathBuf};
 
 /// The result of a line: nothing, or how it differs.
@@ -9,7 +9,7 @@ pub type Compared = Result<(), String>;
 
 /// The folder of the vectors of all functions but the index.
 pub fn folder() -> PathBuf {
-    Path::new(env!("CARGO_MANIFEST_DIR")).join("../vectors/Q-08")
+    Path::new(env!("CARGO_MANIFEST_DIR")).join("../vectors/Q-11")
 }
 
 /// The folder of the vectors of the index.
@@ -92,17 +92,12 @@ pub fn bytes(field: &str) -> Vec<u8> {
     }
 }
 
-/// One call in each of two buffers of `cap` bytes, against the fields after `=>`: answer, number beside it, block stored, and of a receipt
-/// the number of tags thrown out, for which a call tells 0 where there is none.
-pub fn call(
-    cap: &str,
-    expected: &[&str],
-    run: impl Fn(&mut [u8]) -> (u8, usize, usize),
-) -> Compared {
-    let &[answer, beside, stored, ref thrown_out @ ..] = expected else {
+// What a call must tell and store, by the fields after `=>`: answer, number beside it, block stored, and of a receipt the number of tags
+// thrown out and the state handed on, for which a call tells 0 and 3 where there is none.
+fn wanted(expected: &[&str]) -> (Receipt, Option<Vec<u8>>) {
+    let &[answer, beside, stored, ref receipt @ ..] = expected else {
         panic!("{} fields after =>", expected.len());
     };
-    let thrown_out = numbered(thrown_out);
     let answer: u8 = number(answer);
     let stored = (answer == 0).then(|| bytes(stored));
     // On answer 0 the written length stands beside it, on a refusal the vector's number or, where it has none, 0.
@@ -110,10 +105,26 @@ pub fn call(
         Some(block) => block.len(),
         None => optional(beside).unwrap_or(0),
     };
+    let (thrown_out, state) = match *receipt {
+        [] => (0, 3),
+        [thrown_out, state] => (optional(thrown_out).unwrap_or(0), handed_on(answer, state)),
+        _ => panic!("{} fields past the block", receipt.len()),
+    };
+    let told = Receipt {
+        answer,
+        beside,
+        thrown_out,
+        state,
+    };
+    (told, stored)
+}
+
+/// One call in each of two buffers of `cap` bytes, against the fields after `=>`.
+pub fn call(cap: &str, expected: &[&str], run: impl Fn(&mut [u8]) -> Receipt) -> Compared {
+    let (wanted, stored) = wanted(expected);
     for before in patterns(optional(cap).unwrap_or(BLOCK_MAX)) {
         let mut out = before.clone();
         let got = run(&mut out);
-        let wanted = (answer, beside, thrown_out);
         if got != wanted {
             return Err(format!("answered {got:?}, expected {wanted:?}"));
         }
@@ -130,21 +141,23 @@ pub fn call(
     Ok(())
 }
 
-// The number of tags thrown out, in the last field if there is one.
-fn numbered(fields: &[&str]) -> usize {
-    match fields {
-        [] => 0,
-        [thrown_out] => optional(thrown_out).unwrap_or(0),
-        _ => panic!("{} fields past the result", fields.len()),
+// The state that a receipt hands on: on answer 0 the vector's number, on every other answer 3, where the vector has none.
+fn handed_on(answer: u8, state: &str) -> usize {
+    match (answer, optional(state)) {
+        (0, Some(state)) => state,
+        (1.., None) => 3,
+        _ => panic!("answer {answer} with the state {state}"),
     }
 }
 
 /// A call that tells a state and a number of tags thrown out, against the four fields after `=>`: answer, number beside it, state, number.
 pub fn told_numbered(expected: &[&str], got: (u8, usize, usize)) -> Compared {
     let (answer, beside, thrown_out) = got;
-    let (told_fields, last) = expected.split_at(3);
+    let &[ref told_fields @ .., last] = expected else {
+        panic!("no field after =>");
+    };
     told(told_fields, (answer, beside))?;
-    let wanted = numbered(last);
+    let wanted = optional(last).unwrap_or(0);
     if thrown_out != wanted {
         return Err(format!("{thrown_out} thrown out, expected {wanted}"));
     }

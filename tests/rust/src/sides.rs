@@ -1,6 +1,6 @@
 //! The implementations of document 01 that the tests run side by side, under one form.
 use crate::{fast, reference, shown};
-use bgp_policy::{Candidate, Session};
+use bgp_policy::{Candidate, Receipt, Session};
 use std::fmt::{Debug, Formatter};
 
 /// The functions of one implementation.
@@ -8,7 +8,7 @@ use std::fmt::{Debug, Formatter};
 pub struct Side {
     pub name: &'static str,
     pub open: fn(u8, u8, &[u8]) -> (u8, usize),
-    pub receive: fn(Session, &[u8], &mut [u8]) -> (u8, usize, usize),
+    pub receive: fn(Session, &[u8], &mut [u8]) -> Receipt,
     pub send: fn(Session, u8, u8, &[u8], &mut [u8]) -> (u8, usize),
     pub origin_state: fn(u8, u32, u32, &[u8], &[u8]) -> (u8, usize),
     pub origin_state6: fn(u8, u128, u32, &[u8], &[u8]) -> (u8, usize),
@@ -43,27 +43,34 @@ pub const FAST: Side = side!("fast Rust", fast);
 
 pub const SIDES: [Side; 3] = [LIBRARY, REFERENCE, FAST];
 
-/// What a call tells, the number of tags thrown out with it, and the whole buffer that it leaves.
+/// What a call tells, the number of tags thrown out and the state handed on with it, and the whole buffer that it leaves.
 #[derive(PartialEq)]
 pub struct Stored {
     pub told: (u8, usize),
     pub thrown_out: usize,
+    pub state: usize,
     pub buffer: Vec<u8>,
 }
 
-/// What sending tells, in the form of receipt: no tags are thrown out.
-pub fn unnumbered((answer, beside): (u8, usize)) -> (u8, usize, usize) {
-    (answer, beside, 0)
+/// What sending tells, in the form of receipt: no tags are thrown out, and no state is handed on.
+pub fn as_receipt((answer, beside): (u8, usize)) -> Receipt {
+    Receipt {
+        answer,
+        beside,
+        thrown_out: 0,
+        state: 3,
+    }
 }
 
 impl Stored {
     /// A call with a buffer that held `before`.
-    pub fn by(before: &[u8], call: impl FnOnce(&mut [u8]) -> (u8, usize, usize)) -> Self {
+    pub fn by(before: &[u8], call: impl FnOnce(&mut [u8]) -> Receipt) -> Self {
         let mut buffer = before.to_vec();
-        let (answer, beside, thrown_out) = call(&mut buffer);
+        let receipt = call(&mut buffer);
         Stored {
-            told: (answer, beside),
-            thrown_out,
+            told: (receipt.answer, receipt.beside),
+            thrown_out: receipt.thrown_out,
+            state: receipt.state,
             buffer,
         }
     }
@@ -79,9 +86,10 @@ impl Debug for Stored {
     fn fmt(&self, f: &mut Formatter) -> std::fmt::Result {
         write!(
             f,
-            "{:?}, {} thrown out, with the buffer {}",
+            "{:?}, {} thrown out, state {}, with the buffer {}",
             self.told,
             self.thrown_out,
+            self.state,
             shown(&self.buffer)
         )
     }

@@ -1,17 +1,23 @@
 //! Seeded line streams for the desk: frames of every kind, refused ones and unreadable lines among them.
+use crate::chain::one_administration;
 use crate::counterpart;
 use crate::generate::{block, block_of_length, damaged, faulty_block, Random, ASNS};
 use crate::tables::{length6, parameters, parameters_of_length, prefix, prefix6, vrp, vrp6};
 
 fn session_frame(random: &mut Random) -> Vec<u8> {
     let local_role = random.below(5) as u8;
-    let mut settings = [0; 11];
+    let one_administration = one_administration(random, local_role);
+    let mut settings = [0; 12];
     settings[..4].copy_from_slice(&ASNS[0].to_be_bytes());
     settings[4..8].copy_from_slice(&ASNS[1].to_be_bytes());
-    settings[8..].copy_from_slice(&[local_role, random.below(2) as u8, random.below(4) as u8]);
-    if random.one_in(16) {
-        let at = random.below(11);
-        settings[at] = random.pick(&[0, 5, 255]);
+    settings[8..11].copy_from_slice(&[local_role, random.below(2) as u8, random.below(4) as u8]);
+    settings[11] = one_administration;
+    match random.below(64) {
+        0..=3 => settings[random.below(12)] = random.pick(&[0, 5, 255]),
+        // also at a route server, which may not have it
+        4 => settings[11] = 1,
+        5 => settings[11] = 2,
+        _ => {}
     }
     if random.one_in(20) {
         settings.copy_within(0..4, 4);
@@ -103,7 +109,7 @@ fn line(random: &mut Random, frame: &[u8], out: &mut Vec<u8>) {
             digits.insert(at, random.pick(b"gxG/:@` \0\xFF0f"));
         }
         3 => digits.clear(),
-        4 => digits.truncate(random.pick(&[1, 2, 4, 6, 10, 22, 24, 34, 36, 44, 46])),
+        4 => digits.truncate(random.pick(&[1, 2, 4, 6, 10, 22, 24, 26, 34, 36, 44, 46])),
         5 if random.one_in(8) => {
             let length = random.pick(&[8_191, 8_192, 8_193, 8_194, 8_195, 20_000]);
             digits.resize(length, b'0');

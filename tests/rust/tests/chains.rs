@@ -1,95 +1,15 @@
 //! Seeded chains of hops: the library, the reference and fast Rust agree in every call, and a route goes as "The chain" of
 //! document 01 says.
-use bgp_policy::{Session, OWN_ROUTE};
+use bgp_policy::{Receipt, Session, OWN_ROUTE};
 use policy_tests::chain::{end, garbage, hops, originated, roles, run, End, Hop};
 use policy_tests::generate::{attributes, filled, Random};
-use policy_tests::reference::{read, Attribute};
+use policy_tests::order::as_it_should;
 use policy_tests::shown;
-use policy_tests::sides::{agree, unnumbered, Side, LIBRARY};
+use policy_tests::sides::{agree, as_receipt, Side, LIBRARY};
 use policy_tests::tables::Tally;
 use std::collections::BTreeSet;
 
 const ROUNDS: u64 = 6_000;
-
-const PROVIDER: u8 = 0;
-const RS: u8 = 1;
-const RS_CLIENT: u8 = 2;
-const CUSTOMER: u8 = 3;
-const PEER: u8 = 4;
-
-const COMMUNITIES: u8 = 16;
-const OTC: u8 = 35;
-
-// "The order": the first hop out of order, by its index, and the rule that its sending names.
-fn out_of_order(hops: &[Hop]) -> Option<(usize, usize)> {
-    let (mut climbing, mut marked) = (true, false);
-    for (index, hop) in hops.iter().enumerate() {
-        if [PROVIDER, PEER, RS].contains(&hop.to()) && !climbing {
-            return Some((index, if marked { 1 } else { 2 }));
-        }
-        climbing = hop.to() == PROVIDER;
-        marked |= marks(hop);
-    }
-    None
-}
-
-fn marks(hop: &Hop) -> bool {
-    [PEER, CUSTOMER, RS_CLIENT].contains(&hop.to())
-}
-
-// The attributes of types other than 16 and 35.
-fn others(attributes: &[Attribute]) -> Vec<&Attribute> {
-    let other = |a: &&Attribute| ![COMMUNITIES, OTC].contains(&a.kind);
-    attributes.iter().filter(other).collect()
-}
-
-fn is_tag(community: &&[u8]) -> bool {
-    community.starts_with(&[0x43, 0x00])
-}
-
-// The communities of a block, those that are tags and the others.
-fn communities(attributes: &[Attribute]) -> (Vec<&[u8]>, Vec<&[u8]>) {
-    let found = attributes.iter().filter(|a| a.kind == COMMUNITIES);
-    found.flat_map(|a| a.value.chunks(8)).partition(is_tag)
-}
-
-// What is wrong with a block on arrival, if anything.
-fn wrong_arrival(originated: &[u8], hops: &[Hop], arrived: &[u8]) -> Option<&'static str> {
-    let before = read(originated).expect("a readable block is originated");
-    let Ok(after) = read(arrived) else {
-        return Some("unreadable on arrival");
-    };
-    let otc = after.iter().find(|attribute| attribute.kind == OTC);
-    let first = hops.iter().find(|hop| marks(hop));
-    let named = first.map(|hop| hop.sending.local_as.to_be_bytes().to_vec());
-    let (tags, left) = communities(&after);
-    let checks = [
-        (hops.is_empty() && arrived != originated, "altered by none"),
-        (otc.map(|otc| otc.value.clone()) != named, "another OTC"),
-        (!hops.is_empty() && !tags.is_empty(), "a tag on arrival"),
-        (left != communities(&before).1, "other communities"),
-        (others(&after) != others(&before), "other attributes"),
-    ];
-    checks
-        .into_iter()
-        .find(|(wrong, _)| *wrong)
-        .map(|(_, how)| how)
-}
-
-// Whether a chain ended as document 01 says; else how it ended.
-fn as_it_should(originated: &[u8], hops: &[Hop], ended: &End) -> Result<(), String> {
-    let wrong = match (out_of_order(hops), ended) {
-        (None, End::Arrived(block)) => wrong_arrival(originated, hops, block),
-        (Some((index, rule)), &End::Stopped { hop, call, told }) => {
-            let same = (hop, call, told) == (index, "send", (2, rule));
-            (!same).then_some("stopped elsewhere")
-        }
-        (None, _) => Some("stopped in order"),
-        (Some(_), _) => Some("arrived out of order"),
-    };
-    let told = |how| format!("{how}: {hops:?}, {}: {ended:X?}", shown(originated));
-    wrong.map_or(Ok(()), |how| Err(told(how)))
-}
 
 // A chain whose calls all agree, buffers to their end; how it ends.
 fn agreed(random: &mut Random, block: &[u8], hops: &[Hop]) -> End {
@@ -112,7 +32,8 @@ fn answer(ended: &End) -> (u8, usize) {
     }
 }
 
-// A chain with these roles, mode 1 named on every session, that agrees and ends as it should.
+// A chain with these roles, mode 1 named on every session and a byte for one administration at each end, that agrees and ends as it
+// should.
 fn sound(random: &mut Random, roles: &[u8]) -> (u8, usize) {
     let (hops, block) = (hops(random, roles, &[1]), originated(random));
     let ended = agreed(random, &block, &hops);
@@ -189,8 +110,8 @@ fn copies(_: Session, block: &[u8], out: &mut [u8]) -> (u8, usize) {
     (0, block.len())
 }
 
-fn receives_copies(session: Session, block: &[u8], out: &mut [u8]) -> (u8, usize, usize) {
-    unnumbered(copies(session, block, out))
+fn receives_copies(session: Session, block: &[u8], out: &mut [u8]) -> Receipt {
+    as_receipt(copies(session, block, out))
 }
 
 fn sends_copies(session: Session, _: u8, _: u8, block: &[u8], out: &mut [u8]) -> (u8, usize) {
@@ -218,6 +139,30 @@ fn marks_for_the_other(s: Session, source: u8, state: u8, b: &[u8], out: &mut [u
     bgp_policy::send(other, source, state, b, out)
 }
 
+fn tags_by_the_role_alone(
+    s: Session,
+    source: u8,
+    state: u8,
+    b: &[u8],
+    out: &mut [u8],
+) -> (u8, usize) {
+    let one_administration = 0;
+    let other = Session {
+        one_administration,
+        ..s
+    };
+    bgp_policy::send(other, source, state, b, out)
+}
+
+fn strips(s: Session, block: &[u8], out: &mut [u8]) -> Receipt {
+    let one_administration = 0;
+    let other = Session {
+        one_administration,
+        ..s
+    };
+    bgp_policy::receive(other, block, out)
+}
+
 fn sends_by_default(s: Session, source: u8, state: u8, b: &[u8], out: &mut [u8]) -> (u8, usize) {
     bgp_policy::send(Session { mode: 0, ..s }, source, state, b, out)
 }
@@ -231,11 +176,12 @@ fn wrong_functions_are_found() {
         judges_own_routes,
         forgets_the_source,
         marks_for_the_other,
+        tags_by_the_role_alone,
         sends_by_default,
     ];
     let wrong_sends = sends.map(|send| Side { send, ..LIBRARY });
-    let receive = receives_copies;
-    for side in wrong_sends.into_iter().chain([Side { receive, ..LIBRARY }]) {
+    let wrong_receives = [receives_copies, strips].map(|receive| Side { receive, ..LIBRARY });
+    for side in wrong_sends.into_iter().chain(wrong_receives) {
         let found = (0..200).any(|seed| {
             let mut random = Random(seed);
             let roles = roles(&mut random, 4);

@@ -1,10 +1,11 @@
 //! Receipt and sending: the library, the reference and fast Rust agree over seeded inputs, buffers to their end.
-use bgp_policy::{Session, BLOCK_MAX, OWN_ROUTE};
+use bgp_policy::{Receipt, Session, BLOCK_MAX, OWN_ROUTE};
+use policy_tests::chain::one_administration;
 use policy_tests::generate::{
     attributes, block, block_of_length, communities, damaged, encode, faulty_block, Attribute,
     Random, ASNS,
 };
-use policy_tests::sides::{agree, unnumbered, Side, Stored, LIBRARY};
+use policy_tests::sides::{agree, as_receipt, Side, Stored, LIBRARY};
 use policy_tests::tables::Tally;
 use policy_tests::{patterns, shown};
 
@@ -18,29 +19,30 @@ enum Call {
 }
 
 impl Call {
-    fn at(self, side: &Side, block: &[u8], out: &mut [u8]) -> (u8, usize, usize) {
+    fn at(self, side: &Side, block: &[u8], out: &mut [u8]) -> Receipt {
         match self {
             Call::Receive(session) => (side.receive)(session, block, out),
             Call::Send(session, source, state) => {
-                unnumbered((side.send)(session, source, state, block, out))
+                as_receipt((side.send)(session, source, state, block, out))
             }
         }
     }
 }
 
-// One call in both patterns of a buffer of `cap` bytes.
+// One call in both patterns of a buffer of `cap` bytes. Of calls answered 0 those with each state handed on are counted, which is 3
+// for a sending.
 fn agree_in(call: Call, block: &[u8], cap: usize, tally: &mut Tally) -> (u8, usize) {
     let [told, again] = patterns(cap).map(|before| {
         let run = |side: &Side| Stored::by(&before, |out| call.at(side, block, out));
-        agree(run, || {
+        let stored = agree(run, || {
             format!("{call:?}, buffer {cap}, block {}", shown(block))
-        })
-        .told
+        });
+        (stored.told, stored.state)
     });
     assert_eq!(told, again, "{call:?}: what a buffer held counts");
-    let (answer, beside) = told;
-    tally.add(answer, if answer == 0 { 0 } else { beside });
-    told
+    let ((answer, beside), state) = told;
+    tally.add(answer, if answer == 0 { state } else { beside });
+    (answer, beside)
 }
 
 // One call in an ample buffer, then in buffers of the sizes that matter to its answer.
@@ -57,11 +59,13 @@ fn agree_in_sizes(random: &mut Random, call: Call, block: &[u8], tally: &mut Tal
 }
 
 fn session(random: &mut Random) -> Session {
+    let local_role = random.below(5) as u8;
     let mut session = Session {
         local_as: ASNS[0],
         remote_as: ASNS[1],
-        local_role: random.below(5) as u8,
+        local_role,
         mode: random.below(4) as u8,
+        one_administration: one_administration(random, local_role),
     };
     match random.below(80) {
         0 => session.local_as = 0,
@@ -69,7 +73,9 @@ fn session(random: &mut Random) -> Session {
         2 => session.local_as = session.remote_as,
         3 => session.local_role = random.pick(&[5, 6, 255]),
         4 => session.mode = random.pick(&[4, 5, 255]),
-        5..=20 => session.remote_as = random.pick(&ASNS[2..]),
+        // at a route server, which strips every tag, a byte of 1 is out of range too
+        5 => session.one_administration = random.pick(&[1, 1, 2, 255]),
+        6..=21 => session.remote_as = random.pick(&ASNS[2..]),
         _ => {}
     }
     session
@@ -154,16 +160,17 @@ fn compare(seed: u64, call: fn(&mut Random) -> Call) -> Tally {
 }
 
 const FAULTS: [(u8, usize); 6] = [(3, 1), (3, 2), (3, 3), (3, 4), (3, 5), (3, 6)];
+const STATES: [(u8, usize); 4] = [(0, 0), (0, 1), (0, 2), (0, 3)];
 
 #[test]
 fn receipt_agrees() {
-    let others = [(0, 0), (1, 1), (1, 2), (5, 0), (6, 0), (7, 0)];
-    compare(1, receipt).check("receive", &[&others[..], &FAULTS].concat());
+    let others = [(1, 1), (1, 2), (5, 0), (6, 0), (7, 0)];
+    compare(1, receipt).check("receive", &[&STATES[..], &others, &FAULTS].concat());
 }
 
 #[test]
 fn sending_agrees() {
-    let others = [(0, 0), (2, 1), (2, 2), (2, 3), (5, 0), (6, 0), (7, 0)];
+    let others = [(0, 3), (2, 1), (2, 2), (2, 3), (5, 0), (6, 0), (7, 0)];
     compare(2, sending).check("send", &[&others[..], &FAULTS].concat());
 }
 
@@ -174,12 +181,13 @@ fn a_sent_block_is_received_alike() {
     for _ in 0..ROUNDS {
         let (call, block) = (sending(&mut random), block(&mut random));
         let mut sent = vec![0; BLOCK_MAX];
-        let (0, length, _) = call.at(&LIBRARY, &block, &mut sent) else {
+        let told = call.at(&LIBRARY, &block, &mut sent);
+        if told.answer != 0 {
             continue;
-        };
+        }
         let call = receipt(&mut random);
-        agree_in_sizes(&mut random, call, &sent[..length], &mut tally);
+        agree_in_sizes(&mut random, call, &sent[..told.beside], &mut tally);
     }
-    let expected = [(0, 0), (1, 1), (1, 2), (5, 0), (7, 0)];
-    tally.check("receive of sent", &expected);
+    let others = [(1, 1), (1, 2), (5, 0), (7, 0)];
+    tally.check("receive of sent", &[&STATES[..], &others].concat());
 }

@@ -14,14 +14,15 @@ fn session(local_role: u8) -> Session {
         remote_as: 64510,
         local_role,
         mode: 1,
+        one_administration: 0,
     }
 }
 
-// Receipt of a block without a tag, of which none is thrown out.
+// Receipt of a block without a tag, of which none is thrown out and none tells a state.
 fn receive(session: Session, block: &[u8], out: &mut [u8]) -> (u8, usize) {
-    let (answer, beside, thrown_out) = bgp_policy::receive(session, block, out);
-    assert_eq!(thrown_out, 0);
-    (answer, beside)
+    let told = bgp_policy::receive(session, block, out);
+    assert_eq!((told.thrown_out, told.state), (0, 3));
+    (told.answer, told.beside)
 }
 
 // A call in buffers of `cap` bytes answers 0 and stores exactly `block`.

@@ -1,5 +1,6 @@
 //! Document 02, Q-8: how many tags are thrown out, as the tag reader and receipt tell it, at the library.
-use bgp_policy::{receive, received_tag, Session, BLOCK_MAX};
+use bgp_policy::{received_tag, Session, BLOCK_MAX};
+use policy_tests::chain::one_administration;
 use policy_tests::generate::{attributes, communities, encode, Attribute, Random, ASNS};
 use policy_tests::sides::{agree, Stored};
 use policy_tests::tables::Tally;
@@ -17,6 +18,7 @@ fn session(local_role: u8) -> Session {
         remote_as: 64510,
         local_role,
         mode: 1,
+        one_administration: 0,
     }
 }
 
@@ -27,9 +29,15 @@ fn block(communities: &[&str]) -> Vec<u8> {
     [hex("40010100400200"), header.to_vec(), value].concat()
 }
 
-// What receipt tells of a block, in an ample buffer.
+// What receipt tells of a block, in a buffer of `room` bytes: the answer, the number beside it, and how many tags are thrown out.
+fn received_in(room: usize, local_role: u8, block: &[u8]) -> (u8, usize, usize) {
+    let told = bgp_policy::receive(session(local_role), block, &mut vec![0; room]);
+    (told.answer, told.beside, told.thrown_out)
+}
+
+// The same in an ample buffer.
 fn received(local_role: u8, block: &[u8]) -> (u8, usize, usize) {
-    receive(session(local_role), block, &mut [0; BLOCK_MAX])
+    received_in(BLOCK_MAX, local_role, block)
 }
 
 const VALID: &str = "4300000000000000";
@@ -68,8 +76,8 @@ fn answers_0_and_1_have_a_number_and_no_other() {
     assert_eq!(received(PROVIDER, &tags[..tags.len() - 1]), (3, 1, 0));
     let long = [tags.clone(), block_of(BLOCK_MAX)].concat();
     assert_eq!(received(PROVIDER, &long), (6, 0, 0));
-    assert_eq!(receive(session(CUSTOMER), &tags, &mut [0; 13]), (7, 0, 0));
-    assert_eq!(receive(session(CUSTOMER), &tags, &mut [0; 14]), (0, 14, 2));
+    assert_eq!(received_in(13, CUSTOMER, &tags), (7, 0, 0));
+    assert_eq!(received_in(14, CUSTOMER, &tags), (0, 14, 2));
 }
 
 // Many communities, tags among them, at all implementations: with and without an OTC, in buffers that are ample or too small.
@@ -83,11 +91,13 @@ fn numbers_of_seeded_blocks_agree() {
         let (flags, kind, value) = (0xC0, 16, communities(&mut random, count));
         list.insert(random.below(list.len()), Attribute { flags, kind, value });
         let block = encode(&list);
+        let local_role = random.below(5) as u8;
         let session = Session {
             local_as: ASNS[0],
             remote_as: ASNS[1],
-            local_role: random.below(5) as u8,
+            local_role,
             mode: random.below(4) as u8,
+            one_administration: one_administration(&mut random, local_role),
         };
         let before = &patterns(random.pick(&[BLOCK_MAX, BLOCK_MAX, 9]))[0];
         let call = agree(

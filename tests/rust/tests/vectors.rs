@@ -1,10 +1,10 @@
-//! Every line of ../vectors/Q-08 but the desk's, through the library, the reference and fast Rust: the answer, the number beside it,
+//! Every line of ../vectors/Q-11 but the desk's, through the library, the reference and fast Rust: the answer, the number beside it,
 //! and the output buffer to its end.
 use bgp_policy::{table, Candidate, Offer, Session, BLOCK_MAX};
 use policy_tests::chain::{end, run, End, Hop};
 use policy_tests::lines::{all_run, bytes, call, every, number, optional};
 use policy_tests::lines::{told, told_numbered, Compared};
-use policy_tests::sides::{unnumbered, Side};
+use policy_tests::sides::{as_receipt, Side};
 use policy_tests::{counterpart, patterns};
 
 // open: local role, strict, parameters; result: remote role
@@ -46,9 +46,9 @@ fn tag_line(side: &Side, fields: &[&str]) -> Compared {
     told_numbered(&fields[2..], (side.received_tag)(&bytes(block)))
 }
 
-// recv: local AS, remote AS, remote role, cap, block; result: block, how many tags are thrown out
+// recv: local AS, remote AS, remote role, byte, cap, block; result: block, how many tags are thrown out, state handed on
 fn recv_line(side: &Side, fields: &[&str]) -> Compared {
-    let &[local_as, remote_as, remote_role, cap, block, "=>", ..] = fields else {
+    let &[local_as, remote_as, remote_role, byte, cap, block, "=>", ..] = fields else {
         panic!("not the fields of recv: {fields:?}");
     };
     let session = Session {
@@ -56,16 +56,18 @@ fn recv_line(side: &Side, fields: &[&str]) -> Compared {
         remote_as: number(remote_as),
         local_role: counterpart(number(remote_role)),
         mode: 1,
+        one_administration: number(byte),
     };
     let block = bytes(block);
-    call(cap, &fields[6..], |out| {
+    call(cap, &fields[7..], |out| {
         (side.receive)(session, &block, out)
     })
 }
 
-// send: local AS, remote AS, remote role, mode, source, state, cap, block
+// send: local AS, remote AS, remote role, mode, byte, source, state, cap, block
 fn send_line(side: &Side, fields: &[&str]) -> Compared {
-    let &[local_as, remote_as, remote_role, mode, source, state, cap, block, "=>", ..] = fields
+    let &[local_as, remote_as, remote_role, mode, byte, source, state, cap, block, "=>", ..] =
+        fields
     else {
         panic!("not the fields of send: {fields:?}");
     };
@@ -74,10 +76,11 @@ fn send_line(side: &Side, fields: &[&str]) -> Compared {
         remote_as: number(remote_as),
         local_role: counterpart(number(remote_role)),
         mode: number(mode),
+        one_administration: number(byte),
     };
     let (source, state, block) = (number(source), number(state), bytes(block));
-    call(cap, &fields[9..], |out| {
-        unnumbered((side.send)(session, source, state, &block, out))
+    call(cap, &fields[10..], |out| {
+        as_receipt((side.send)(session, source, state, &block, out))
     })
 }
 
@@ -141,14 +144,15 @@ fn better_line(side: &Side, fields: &[&str]) -> Compared {
     told(&fields[9..], (side.better)(first, second))
 }
 
-// A hop: `sender:receiver:sender's role:mode:state`
+// A hop: `sender:receiver:sender's role:mode:state:sender's byte:receiver's byte`
 fn hop(text: &str) -> Hop {
     let parts: Vec<&str> = text.split(':').collect();
-    let &[sender, receiver, role, mode, state] = &parts[..] else {
+    let &[sender, receiver, role, mode, state, at_sender, at_receiver] = &parts[..] else {
         panic!("not the parts of a hop: {text}");
     };
-    let ends = [number(sender), number(receiver)];
-    Hop::new(ends, number(role), [number(mode); 2], number(state))
+    let ases = [number(sender), number(receiver)];
+    let bytes = [number(at_sender), number(at_receiver)];
+    Hop::new(ases, number(role), [number(mode); 2], bytes, number(state))
 }
 
 // chain: block, hops => arrived, hop, call, answer, number beside it, block on arrival

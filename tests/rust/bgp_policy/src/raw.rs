@@ -14,12 +14,14 @@ extern "C" {
         remote_as: u32,
         local_role: u8,
         mode: u8,
+        one_administration: u8,
         block: *const u8,
         block_len: usize,
         out: *mut u8,
         out_len: usize,
         beside: *mut usize,
         thrown_out: *mut usize,
+        state: *mut usize,
     ) -> u8;
 
     pub fn bgp_send(
@@ -27,6 +29,7 @@ extern "C" {
         remote_as: u32,
         local_role: u8,
         mode: u8,
+        one_administration: u8,
         source: u8,
         state: u8,
         block: *const u8,

@@ -62,6 +62,7 @@ fn session(local_role: u8) -> Session {
         remote_as: 64510,
         local_role,
         mode: 1,
+        one_administration: 0,
     }
 }
 
@@ -80,19 +81,16 @@ macro_rules! both {
 // The functions on one block, at each size.
 fn blocks(table: &mut Table, random: &mut Random) -> Result<(), String> {
     let made = SIZES.map(|size| (format!("{size} bytes"), inputs::sized(random, size)));
+    // made once and lent: made at each call, a session costs some nanoseconds more, in Rust above all
+    let (peer, rs) = (session(PEER), session(RS));
+    let (peer, rs) = (black_box(&peer), black_box(&rs));
     for (size, block) in &made {
         // from a Peer and with no OTC, so that one is added
-        both!(table, size, |out| receive(session(PEER), block, out))?;
+        both!(table, size, |out| receive(*peer, block, out))?;
     }
     for (size, block) in &made {
         // to an RS-Client, so that a tag and an OTC are added
-        both!(table, size, |out| send(
-            session(RS),
-            OWN_ROUTE,
-            0,
-            block,
-            out
-        ))?;
+        both!(table, size, |out| send(*rs, OWN_ROUTE, 0, block, out))?;
     }
     for (size, block) in &made {
         // the nearest to the reader alone

@@ -1,5 +1,5 @@
 //! Reading of an attribute block: its faults 1 to 6, and the parts that the policy looks at.
-use super::{number, INVALID};
+use super::{number, INVALID, UNAVAILABLE};
 
 const EXTENDED_LENGTH: u8 = 0x10;
 const ORIGIN: u8 = 1;
@@ -58,6 +58,20 @@ pub fn is_tag(community: &[u8]) -> bool {
 /// Whether a tag tells no state and is thrown out.
 pub fn is_erroneous(tag: &[u8]) -> bool {
     tag[7] > INVALID
+}
+
+/// The greatest state that the tags among communities tell, else unavailable; and how many of them are thrown out.
+#[inline]
+pub fn told_by_tags(communities: &[u8]) -> (u8, usize) {
+    let (mut state, mut thrown_out) = (None, 0);
+    for tag in communities.chunks_exact(8).filter(|c| is_tag(c)) {
+        if is_erroneous(tag) {
+            thrown_out += 1;
+        } else {
+            state = state.max(Some(tag[7]));
+        }
+    }
+    (state.unwrap_or(UNAVAILABLE), thrown_out)
 }
 
 impl<'a> Block<'a> {

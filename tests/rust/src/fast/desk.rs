@@ -153,15 +153,16 @@ impl Memory {
 
     fn open(&mut self, frame: &[u8]) -> Answer {
         self.session = None;
-        if frame.len() < 11 {
+        if frame.len() < 12 {
             return (UNREADABLE, 0);
         }
-        let (settings, parameters) = frame.split_at(11);
+        let (settings, parameters) = frame.split_at(12);
         let session = Session {
             local_as: number(settings),
             remote_as: number(&settings[4..]),
             local_role: settings[8],
             mode: settings[10],
+            one_administration: settings[11],
         };
         if !is_session(&session) {
             return (BAD_SETTING, 0);
@@ -218,11 +219,12 @@ fn receive<B: Bits>(
         Ok(block) => block,
         Err(fault) => return (MALFORMED, fault, 0),
     };
-    let (answer, length, thrown_out) = receive_read(&session, &block, &mut result[1..]);
-    if answer == DONE {
+    // The state is the table's, an empty one's too, and never that of the tags.
+    let receipt = receive_read(&session, &block, &mut result[1..]);
+    if receipt.answer == DONE {
         result[0] = validate(prefix, session.local_as, vrps, &block);
     }
-    (answer, 1 + length, thrown_out)
+    (receipt.answer, 1 + receipt.beside, receipt.thrown_out)
 }
 
 /// A VRP added to those of its family.

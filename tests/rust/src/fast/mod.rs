@@ -1,5 +1,5 @@
-//! Document 01, with document 02's, in the best plain Rust that we can write: the same functions as the proved
-//! library's, over the same types, to measure it against. The tests hold both to `reference`.
+//! Document 01, with document 02's, in the best plain Rust that we can write: the same functions as the
+//! proved library's, over the same types, to measure it against. The tests hold both to `reference`.
 mod block;
 mod choice;
 mod desk;
@@ -18,11 +18,23 @@ pub use opening::open;
 pub use origin::{origin_state, origin_state6, received_tag};
 pub use passing::{receive, send};
 
+use bgp_policy::Receipt;
+
 /// What a call tells: the answer, and the number beside it or 0 where there is none.
 type Answer = (u8, usize);
 
 /// The same, and how many tags are thrown out, or 0 where no such number is told.
 type Numbered = (u8, usize, usize);
+
+/// What a receipt not answered 0 tells: no state is handed on.
+fn refused(answer: u8, beside: usize, thrown_out: usize) -> Receipt {
+    Receipt {
+        answer,
+        beside,
+        thrown_out,
+        state: UNAVAILABLE.into(),
+    }
+}
 
 const DONE: u8 = 0;
 const LEAK: u8 = 1;

@@ -1,8 +1,8 @@
 //! Origin validation against a table of VRPs, and the state that received tags tell.
-use super::block::{is_erroneous, is_tag, Block, Segments};
+use super::block::{told_by_tags, Block, Segments};
 use super::{number, Answer, Numbered};
 use super::{BAD_SETTING, BAD_VRP, DONE, MALFORMED, MAX_BLOCK, MAX_VRPS, TOO_LONG};
-use super::{INVALID, NOT_FOUND, UNAVAILABLE, VALID};
+use super::{INVALID, NOT_FOUND, VALID};
 
 /// The prefixes of a family: IPv4's are a `u32`, IPv6's a `u128`.
 pub trait Bits: Copy {
@@ -172,13 +172,6 @@ pub fn received_tag(block: &[u8]) -> Numbered {
         Err(fault) => return (MALFORMED, fault, 0),
     };
     let communities = block.communities.map_or(&[][..], |c| c.value);
-    let (mut state, mut thrown_out) = (None, 0);
-    for tag in communities.chunks_exact(8).filter(|c| is_tag(c)) {
-        if is_erroneous(tag) {
-            thrown_out += 1;
-        } else {
-            state = state.max(Some(tag[7]));
-        }
-    }
-    (DONE, state.unwrap_or(UNAVAILABLE).into(), thrown_out)
+    let (state, thrown_out) = told_by_tags(communities);
+    (DONE, state.into(), thrown_out)
 }

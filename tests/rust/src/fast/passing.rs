@@ -1,56 +1,70 @@
 //! Receipt and sending: the verdict on a block, and the block that is kept or sent.
-use super::block::{is_erroneous, is_tag, Block};
+use super::block::{told_by_tags, Block};
 use super::write::{store, LEARNED, OWN};
-use super::{drops_invalid, remote_role, Answer, Numbered};
-use super::{BAD_SETTING, LEAK, MALFORMED, TOO_LONG, WITHHELD};
+use super::{drops_invalid, refused, remote_role, Answer};
+use super::{BAD_SETTING, DONE, LEAK, MALFORMED, TOO_LONG, WITHHELD};
 use super::{CUSTOMER, PEER, PROVIDER, RS, RS_CLIENT};
 use super::{INVALID, MAX_BLOCK, OWN_SOURCE, PRIORITISE, UNAVAILABLE};
-use bgp_policy::Session;
+use bgp_policy::{Receipt, Session};
 
-/// Whether every setting of a session is in range.
+/// Whether every setting of a session is in range. A route server is under one administration with no other end: it strips all tags.
 pub fn is_session(session: &Session) -> bool {
     session.local_as != 0
         && session.remote_as != 0
         && session.local_as != session.remote_as
         && session.local_role <= PEER
         && session.mode <= PRIORITISE
+        && session.one_administration <= u8::from(session.local_role != RS)
 }
 
 /// What is kept of a block from the other end.
-pub fn receive(session: Session, block: &[u8], out: &mut [u8]) -> Numbered {
+pub fn receive(session: Session, block: &[u8], out: &mut [u8]) -> Receipt {
     if !is_session(&session) {
-        return (BAD_SETTING, 0, 0);
+        return refused(BAD_SETTING, 0, 0);
     }
     if block.len() > MAX_BLOCK {
-        return (TOO_LONG, 0, 0);
+        return refused(TOO_LONG, 0, 0);
     }
     match Block::read(block) {
         Ok(block) => receive_read(&session, &block, out),
-        Err(fault) => (MALFORMED, fault, 0),
+        Err(fault) => refused(MALFORMED, fault, 0),
     }
 }
 
 /// Receipt of a readable block on a session in range.
-pub fn receive_read(session: &Session, block: &Block, out: &mut [u8]) -> Numbered {
+pub fn receive_read(session: &Session, block: &Block, out: &mut [u8]) -> Receipt {
     let from = remote_role(session.local_role);
     if let Some(otc) = block.otc {
         if matches!(from, CUSTOMER | RS_CLIENT) {
-            return (LEAK, 1, thrown_out(block));
+            return refused(LEAK, 1, thrown_out(block));
         }
         if from == PEER && otc != session.remote_as {
-            return (LEAK, 2, thrown_out(block));
+            return refused(LEAK, 2, thrown_out(block));
         }
     }
     let marks = matches!(from, PROVIDER | PEER | RS) && block.otc.is_none();
     let otc = marks.then_some(session.remote_as);
-    store(block, LEARNED, None, otc, out)
+    let stay = session.one_administration != 0;
+    let (answer, beside, thrown_out) = store(block, stay, LEARNED, None, otc, out);
+    let state = match stay && answer == DONE {
+        true => told_by_tags(communities(block)).0,
+        false => UNAVAILABLE,
+    };
+    Receipt {
+        answer,
+        beside,
+        thrown_out,
+        state: state.into(),
+    }
+}
+
+fn communities<'a>(block: &Block<'a>) -> &'a [u8] {
+    block.communities.as_ref().map_or(&[], |c| c.value)
 }
 
 // How many tags of a block that is not stored are thrown out.
 fn thrown_out(block: &Block) -> usize {
-    let communities = block.communities.as_ref().map_or(&[][..], |c| c.value);
-    let tags = communities.chunks_exact(8).filter(|c| is_tag(c));
-    tags.filter(|tag| is_erroneous(tag)).count()
+    told_by_tags(communities(block)).1
 }
 
 /// What goes out of a block to the other end.
@@ -81,10 +95,10 @@ fn send_read(session: &Session, source: u8, state: u8, block: &Block, out: &mut 
     if drops_invalid(session.mode) && state == INVALID && to == RS_CLIENT {
         return (WITHHELD, 3);
     }
-    let tags = to == RS_CLIENT && state != UNAVAILABLE;
+    let tags = (to == RS_CLIENT || session.one_administration != 0) && state != UNAVAILABLE;
     let marks = matches!(to, CUSTOMER | PEER | RS_CLIENT) && block.otc.is_none();
     let otc = marks.then_some(session.local_as);
     let flags = if source == OWN_SOURCE { OWN } else { LEARNED };
-    let (answer, length, _) = store(block, flags, tags.then_some(state), otc, out);
+    let (answer, length, _) = store(block, false, flags, tags.then_some(state), otc, out);
     (answer, length)
 }

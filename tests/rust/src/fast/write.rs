@@ -1,4 +1,4 @@
-//! The block that receipt and sending store: a copy without tags, and with a tag and an OTC where they are due.
+//! The block that receipt and sending store: a copy without the tags that go, and with a tag and an OTC where they are due.
 use super::block::{is_erroneous, is_tag, Block};
 use super::{Numbered, DONE, MAX_BLOCK, NO_ROOM};
 
@@ -6,16 +6,17 @@ use super::{Numbered, DONE, MAX_BLOCK, NO_ROOM};
 pub const OWN: u8 = 0xC0;
 pub const LEARNED: u8 = 0xE0;
 
-/// Stores a block without its tags, with a new tag and a new OTC if given, unless the result has no room; and tells how many of the
-/// tags are thrown out.
+/// Stores a block without its tags, or without those alone that are thrown out where the others `stay`, and with a new tag and a new
+/// OTC if given, unless the result has no room; and tells how many tags are thrown out.
 pub fn store(
     block: &Block,
+    stay: bool,
     flags: u8,
     tag: Option<u8>,
     otc: Option<u32>,
     out: &mut [u8],
 ) -> Numbered {
-    let change = Change::of(block, tag);
+    let change = Change::of(block, stay, tag);
     let tag_attribute = tag_attribute(flags, tag.unwrap_or(0));
     let new_tag: &[u8] = match tag {
         Some(_) if change.kept == 0 => &tag_attribute,
@@ -55,7 +56,9 @@ fn otc_attribute(flags: u8, asn: u32) -> [u8; 7] {
 
 /// What becomes of the communities attribute.
 struct Change {
-    /// How many bytes of communities are no tags; the attribute goes away if there are none.
+    /// Whether tags that are not thrown out stay.
+    stay: bool,
+    /// How many bytes of communities are left; the attribute goes away if there are none.
     kept: usize,
     /// How many tags are thrown out.
     thrown_out: usize,
@@ -67,8 +70,9 @@ struct Change {
 }
 
 impl Change {
-    fn of(block: &Block, tag: Option<u8>) -> Self {
+    fn of(block: &Block, stay: bool, tag: Option<u8>) -> Self {
         let mut change = Change {
+            stay,
             kept: 0,
             thrown_out: 0,
             tag: None,
@@ -81,6 +85,9 @@ impl Change {
                 change.kept -= 8;
                 change.thrown_out += usize::from(is_erroneous(tag));
             }
+            if stay {
+                change.kept = communities.value.len() - 8 * change.thrown_out;
+            }
             change.old_size = communities.end - communities.start;
             if change.kept != 0 {
                 change.tag = tag;
@@ -88,6 +95,10 @@ impl Change {
             }
         }
         change
+    }
+
+    fn drops(&self, community: &[u8]) -> bool {
+        is_tag(community) && (!self.stay || is_erroneous(community))
     }
 
     /// The length of the new value.
@@ -135,7 +146,7 @@ impl Pen<'_> {
             let mut communities = communities.value.chunks_exact(8);
             communities
                 .by_ref()
-                .filter(|c| !is_tag(c))
+                .filter(|c| !change.drops(c))
                 .for_each(|c| self.put(c));
         }
         if let Some(state) = change.tag {

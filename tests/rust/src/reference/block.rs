@@ -141,11 +141,15 @@ pub fn is_tag(community: &[u8]) -> bool {
     community[0] == 0x43 && community[1] == 0x00
 }
 
+/// A 43 00 community "with a value above 2"; its value is its last byte.
+pub fn is_above_2(community: &[u8]) -> bool {
+    is_tag(community) && community[7] > 2
+}
+
 /// "the number of 43 00 communities with a value above 2".
 pub fn thrown_out(attributes: &[Attribute]) -> usize {
     let mut tags = communities_of(attributes);
-    tags.retain(|community| is_tag(community));
-    tags.retain(|tag| tag[7] > 2);
+    tags.retain(|community| is_above_2(community));
     tags.len()
 }
 

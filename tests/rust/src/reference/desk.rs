@@ -90,8 +90,8 @@ impl Desk {
         }
     }
 
-    /// "01 session (local AS, remote AS, local role, strict, mode, OPEN parameters)"; what "is not answered 0 [..] leaves no
-    /// session".
+    /// "01 session (local AS, remote AS, local role, strict, mode, OPEN parameters)", Q-11: with "a byte after mode"; what "is not
+    /// answered 0 [..] leaves no session".
     fn open(&mut self, frame: &[u8]) -> Result<Vec<u8>, Refusal> {
         self.session = None;
         let (session, strict, parameters) = session_frame(frame).ok_or(UNREADABLE)?;
@@ -102,7 +102,8 @@ impl Desk {
     }
 
     /// "02 receipt (prefix length, prefix, block)"; Q-1: "Frame 12 is a receipt with a 16-byte prefix". "Validation comes after the
-    /// receipt verdict, with the local AS as own."
+    /// receipt verdict, with the local AS as own." Q-11: the state that receipt hands on is for a caller without a table, "never the
+    /// desk, where an empty one counts".
     fn receive(&self, width: u8, frame: &[u8]) -> Result<Vec<u8>, Refusal> {
         let (route, block) = receipt_frame(width, frame).ok_or(UNREADABLE)?;
         let session = self.session.ok_or(UNREADABLE)?;
@@ -142,6 +143,7 @@ fn session_frame(frame: &[u8]) -> Option<(Session, u8, &[u8])> {
         remote_as,
         local_role,
         mode,
+        one_administration: input.byte()?,
     };
     Some((session, strict, input.0))
 }

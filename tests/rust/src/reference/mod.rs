@@ -1,6 +1,6 @@
-//! Document 01 in plain Rust, with document 02's Q-1, Q-2, Q-7, Q-8 and Q-9, written from their text alone and slow on purpose: whole lists
-//! that are read, altered and written anew. The tests compare the proved library with it. A file follows a section of document 01 or a
-//! request; sentences in quotes are its, after "Q-1:" or another request's number those of that request.
+//! Document 01 in plain Rust, with document 02's Q-1, Q-2, Q-7, Q-8, Q-9 and Q-11, written from their text alone and slow on purpose:
+//! whole lists that are read, altered and written anew. The tests compare the proved library with it. A file follows a section of
+//! document 01 or a request; sentences in quotes are its, after "Q-1:" or another request's number those of that request.
 mod block;
 mod choice;
 mod desk;
@@ -70,13 +70,24 @@ fn demand(holds: bool, refusal: Refusal) -> Result<(), Refusal> {
     }
 }
 
-/// "Settings": AS numbers from 1, "the two of a session unequal; roles 0 to 4; [..] mode 0 to 3".
+/// "Settings": AS numbers from 1, "the two of a session unequal; roles 0 to 4; [..] mode 0 to 3". Q-11: "5 for a byte above 1, or 1
+/// with local role RS", since "A route server must still strip".
 fn check_session(session: Session) -> Result<(), Refusal> {
     demand(session.local_as >= 1, OUT_OF_RANGE)?;
     demand(session.remote_as >= 1, OUT_OF_RANGE)?;
     demand(session.local_as != session.remote_as, OUT_OF_RANGE)?;
     demand(session.local_role <= 4, OUT_OF_RANGE)?;
-    demand(session.mode <= 3, OUT_OF_RANGE)
+    demand(session.mode <= 3, OUT_OF_RANGE)?;
+    demand(session.one_administration <= 1, OUT_OF_RANGE)?;
+    demand(
+        session.local_role != RS || !one_owner(session),
+        OUT_OF_RANGE,
+    )
+}
+
+/// Q-11: "1 if both ends are under one administration, else 0".
+fn one_owner(session: Session) -> bool {
+    session.one_administration == 1
 }
 
 /// "0 the house default"; Q-9: "mode 0 now means mode 2".

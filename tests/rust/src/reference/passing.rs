@@ -1,10 +1,11 @@
 //! "Receipt" and "Sending".
-use super::block::{communities_of, encode, is_tag, otc_of, read, thrown_out, Attribute};
-use super::block::{COMMUNITIES, LONG, OTC};
-use super::{check_session, counterpart, demand, mode_meant, Refusal};
+use super::block::{communities_of, encode, is_above_2, is_tag, otc_of, read, thrown_out};
+use super::block::{Attribute, COMMUNITIES, LONG, OTC};
+use super::origin::received_tag;
+use super::{check_session, counterpart, demand, mode_meant, one_owner, Refusal};
 use super::{BLOCK_MAX, DONE, INELIGIBLE, NO_ROOM, OUT_OF_RANGE, TOO_LONG, WITHHELD};
 use super::{CUSTOMER, DROP_INVALID, INVALID, PEER, PROVIDER, RS, RS_CLIENT, UNAVAILABLE};
-use bgp_policy::Session;
+use bgp_policy::{Receipt, Session};
 
 /// The source of an own route.
 const OWN_ROUTE: u8 = 255;
@@ -13,11 +14,28 @@ const OWN_ROUTE: u8 = 255;
 /// begin E0; an own route keeps C0."
 const PARTIAL: u8 = 0x20;
 
-/// What receipt answers, the number beside it, and the number that it hands on, or 0; on answer 0 the block is in `out`, and its length
-/// beside.
-pub fn receive(session: Session, block: &[u8], out: &mut [u8]) -> (u8, usize, usize) {
+/// What receipt answers and the number beside it; on answer 0 the block is in `out`, and its length beside. Q-8's number is 0, and
+/// Q-11's state 3, where there is none.
+pub fn receive(session: Session, block: &[u8], out: &mut [u8]) -> Receipt {
     let (answer, beside) = store(received(session, block, out.len()), out);
-    (answer, beside, handed_on(answer, block).unwrap_or(0))
+    Receipt {
+        answer,
+        beside,
+        thrown_out: handed_on(answer, block).unwrap_or(0),
+        state: match answer {
+            DONE => state_handed_on(session, &out[..beside]),
+            _ => UNAVAILABLE.into(),
+        },
+    }
+}
+
+/// Q-11: receipt "on answer 0 hands on the state read from the rest (with byte 0 always 3)"; the rest is in the block stored.
+fn state_handed_on(session: Session, stored: &[u8]) -> usize {
+    if !one_owner(session) {
+        return UNAVAILABLE.into();
+    }
+    let (_, state, _) = received_tag(stored);
+    state
 }
 
 /// Q-8: "Receipt hands the number on", "on answers 0 and 1", and no other.
@@ -46,7 +64,13 @@ pub fn received(session: Session, block: &[u8], room: usize) -> Result<Vec<u8>, 
     if otc.is_some() && from == PEER && otc != Some(session.remote_as) {
         return Err((INELIGIBLE, 2));
     }
-    drop_tags(&mut attributes);
+    // Q-11: "With 1, receipt drops only those 43 00 communities that have a value above 2".
+    let dropped = if one_owner(session) {
+        is_above_2
+    } else {
+        is_tag
+    };
+    drop_communities(&mut attributes, dropped);
     if otc.is_none() && [PROVIDER, PEER, RS].contains(&from) {
         add_otc(&mut attributes, PARTIAL, session.remote_as);
     }
@@ -78,9 +102,10 @@ pub fn sent(
     if mode_meant(session.mode) == DROP_INVALID && state == INVALID && to == RS_CLIENT {
         return Err((WITHHELD, 3));
     }
-    drop_tags(&mut attributes);
+    // Q-11: "sending drops all as before and tags towards any role".
+    drop_communities(&mut attributes, is_tag);
     let partial = if source == OWN_ROUTE { 0 } else { PARTIAL };
-    if to == RS_CLIENT && state != UNAVAILABLE {
+    if (to == RS_CLIENT || one_owner(session)) && state != UNAVAILABLE {
         add_tag(&mut attributes, partial, state);
     }
     if otc.is_none() && [CUSTOMER, PEER, RS_CLIENT].contains(&to) {
@@ -89,10 +114,10 @@ pub fn sent(
     fitting(encode(&attributes), room)
 }
 
-/// "drop every 43 00 community"; "A communities attribute emptied by dropping goes away whole."
-fn drop_tags(attributes: &mut Vec<Attribute>) {
+/// "drop every 43 00 community", or those of them that Q-11 says; "A communities attribute emptied by dropping goes away whole."
+fn drop_communities(attributes: &mut Vec<Attribute>, dropped: fn(&[u8]) -> bool) {
     let mut left = communities_of(attributes);
-    left.retain(|community| !is_tag(community));
+    left.retain(|community| !dropped(community));
     attributes.retain(|attribute| attribute.kind != COMMUNITIES || !left.is_empty());
     for attribute in attributes {
         if attribute.kind == COMMUNITIES {

@@ -163,7 +163,7 @@ fn session(lines: &mut Vec<u8>, random: &mut Random) {
     let rejected = random.one_in(32);
     let remote = if rejected { 7 } else { counterpart(local) };
     let mode = random.below(4) as u8;
-    let settings = [1, 0, 0, 0xFB, 0xF4, 0, 0, 0xFB, 0xFE, local, 1, mode];
+    let settings = [1, 0, 0, 0xFB, 0xF4, 0, 0, 0xFB, 0xFE, local, 1, mode, 0];
     line(lines, &[&settings, &parameters(remote)]);
 }
 

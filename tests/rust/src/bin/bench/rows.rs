@@ -1,6 +1,6 @@
 //! The tables: of each row the calls of two sides, such as the library and Rust, compared, timed in turn, and printed.
 use crate::Effort;
-use bgp_policy::BLOCK_MAX;
+use bgp_policy::{Receipt, BLOCK_MAX};
 use policy_tests::{patterns, shown};
 use std::fmt::Debug;
 use std::hint::black_box;
@@ -20,6 +20,12 @@ impl Answer for (u8, usize) {
 impl Answer for (u8, usize, usize) {
     fn number(&self) -> u8 {
         self.0
+    }
+}
+
+impl Answer for Receipt {
+    fn number(&self) -> u8 {
+        self.answer
     }
 }
 
