@@ -10,13 +10,16 @@ use Rattle.rules.specs.Receipt.{GotNumbered, ReceiptNumbers}
 use Rattle.rules.specs.Index.{Finding, LookUpNumbers}
 use Rattle.rules.specs.declared.Session.{Session}
 
--- What sending promises, where `decided` is what the definition decides: the buffer and the answer as `Sent` of `rules` says them, and
+-- An answer as two numbers.
+abbrev pub Numbered : Answer ℕ → ℕ → ℕ → Type 0
+Numbered told number besides = (number ≡ answerNumber told) × (besides ≡ besideNumber told)
+
+-- What the second call of sending promises, where `decided` is what the definition decides: the buffer and the answer as `Sent` of `rules` says them, and
 -- that answer as two numbers.
 pub record Reported (decided : Answer (List Attribute)) (before : List ℕ) (number besides : ℕ) (after : List ℕ) : Type 0 where
   pub told : Answer ℕ
   pub leaves : Leaves decided before told after
-  pub answered : number ≡ answerNumber told
-  pub beside : besides ≡ besideNumber told
+  pub numbers : Numbered told number besides
 
 -- What receipt promises: the buffer, the answer, the number of tags thrown out and the state as `GotNumbered` of `rules` says them, and the
 -- last three as four numbers.
@@ -32,7 +35,7 @@ pub record ReportedReceipt (s : Session) (b before : List ℕ) (number besides t
 pub record ReportedIndex (Promised : Answer ℕ → List ℕ → Type 0) (number besides : ℕ) (memory : List ℕ) : Type 0 where
   pub told : Answer ℕ
   pub promised : Promised told memory
-  pub numbers : (number ≡ answerNumber told) × (besides ≡ besideNumber told)
+  pub numbers : Numbered told number besides
 
 -- What a look-up promises: its answer as `LooksUp` of `rules` says it, and that answer as three numbers.
 pub record ReportedLookUp (Promised : Answer Finding → Type 0) (number besides visits : ℕ) : Type 0 where

@@ -17,10 +17,10 @@ ghost use Rattle.rules.specs.Answers.{answerNumber, besideNumber};
 ghost use Rattle.rules.specs.Settings.{sessionOf};
 ghost use Rattle.rules.specs.Roles.{openSession};
 ghost use Rattle.rules.specs.Changes.{thrownTold};
-ghost use Rattle.rules.specs.Sending.{sendingVerdict};
+ghost use Rattle.rules.specs.Sending.{sendingVerdict, sendSize};
 ghost use Rattle.rules.specs.Origin.{ipv4, ipv6, originState, receivedTag};
 ghost use Rattle.rules.specs.Choice.{chooseIn, better, indexTold, leftTold};
-ghost use Rattle.c_api.specs.Numbers.{Reported, ReportedReceipt};
+ghost use Rattle.c_api.specs.Numbers.{Numbered, Reported, ReportedReceipt};
 
 // Opening of a session: the role agreement in the OPEN's optional parameters.
 #[no_mangle]
@@ -54,9 +54,29 @@ pub extern "C" fn bgp_receive(
     report_received(answer, beside, thrown_out, state)
 }
 
-// Sending of a block on a session.
+// The first call of sending: the verdict on a block on a session, and how long it is as it goes out.
 #[no_mangle]
-pub extern "C" fn bgp_send(
+pub extern "C" fn bgp_send_size(
+    local_as: u32,
+    remote_as: u32,
+    local_role: u8,
+    mode: u8,
+    one_administration: u8,
+    source: u8,
+    state: u8,
+    block: &[u8],
+    beside: &mut usize,
+) -> u8
+    ensures { λ r. ⌜ Numbered (sendSize (sessionOf «local_as» «remote_as» «local_role» mode «one_administration») source state (now (block .entry))) r (now (beside .exit)) ⌝ }
+{
+    let session = session_of(local_as, remote_as, local_role, mode, one_administration);
+    let answer = policy::size::send_size(session, source, state, block);
+    report_advertised(answer, beside)
+}
+
+// The second: the block as it goes out.
+#[no_mangle]
+pub extern "C" fn bgp_send_write(
     local_as: u32,
     remote_as: u32,
     local_role: u8,
@@ -71,7 +91,7 @@ pub extern "C" fn bgp_send(
     ensures { λ r. ⌜ Reported (sendingVerdict (sessionOf «local_as» «remote_as» «local_role» mode «one_administration») source state (now (block .entry))) (now (out .entry)) r (now (beside .exit)) (now (out .exit)) ⌝ }
 {
     let sender = session_of(local_as, remote_as, local_role, mode, one_administration);
-    let answer = policy::send(sender, source, state, block, out);
+    let answer = policy::write::send_write(sender, source, state, block, out);
     report_advertised(answer, beside)
 }
 

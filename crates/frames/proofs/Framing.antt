@@ -14,7 +14,7 @@ use Rattle.rules.specs.Roles.{counterpart, openChecks, openSession}
 use Rattle.rules.specs.Attributes.{Attribute, attributes, encode, readable, valueOf, segments, asPathType}
 use Rattle.rules.specs.Changes.{blockChecks, noRoom, fitted, Leaves}
 use Rattle.rules.specs.Receipt.{receiptRules, receiptResult, receiptVerdict, receive}
-use Rattle.rules.specs.Sending.{sendingVerdict, send}
+use Rattle.rules.specs.Sending.{sendingVerdict, sendWrite}
 use Rattle.rules.specs.Origin.{vrps, stateIn, originIn, originAs}
 use Rattle.rules.specs.Desk.{sessionHead, sessionIn, sessionFrame, receiptFrame, sendingFrame}
 use Rattle.rules.specs.declared.Refusal.{Refusal}
@@ -22,7 +22,7 @@ use Rattle.rules.specs.declared.Refusal.the-variants.{BadSetting, NoRoom, Unrea
 use Rattle.rules.specs.declared.Session.{Session}
 use Rattle.frames.specs.declared.reply.Reply.the-variants.{Bytes, Refused}
 use Rattle.rules.proofs.Answers.{Passed, earlier, here, past, answer-decided, answer-refused, order-whole}
-use Rattle.rules.proofs.Buffers.{fitted-fits, leaves-alone}
+use Rattle.rules.proofs.Buffers.{fitted-fits, sized-refused, leaves-alone}
 use Rattle.attributes.specs.Layout.{layout, valueAt}
 use Rattle.attributes.proofs.Found.{value-of}
 use Rattle.frames.specs.Sizes.{resultMax}
@@ -123,12 +123,7 @@ record Stores (decided : Answer (List Attribute)) (n : ℕ) (after : List ℕ) :
 
 module _ {decided : Answer (List Attribute)} {before after : List ℕ} {told : Answer ℕ} (k : length before ≡ blockMax) (p : Leaves decided before told after) where
   leaves-refused : {r : Refusal} → told ≡ refused r → fitted decided blockMax ≡ refused r
-  unfolding sized
-  leaves-refused {r} e = go (fitted decided blockMax) (sym e ∙ p .answered ∙ ap (λ (m : ℕ). sized (fitted decided m)) k)
-    where
-      go : (a : Answer (List ℕ)) → refused r ≡ sized a → a ≡ refused r
-      go (done x) z = let n : _≡_ {A = ℕ} 0 1 = cc in absurd (omega arith)
-      go (refused q) z = let l : q ≡ r = cc in ap refused l
+  leaves-refused e = sized-refused (fitted decided blockMax) (sym e ∙ p .answered ∙ ap (λ (m : ℕ). sized (fitted decided m)) k)
 
   leaves-done : {n : ℕ} → told ≡ done n → Stores decided n after
   unfolding sized stored over
@@ -160,7 +155,7 @@ module _ (s : Session) (f made : List ℕ) where
   sending-short h = replies-refused made (rw (lt-ltb (length f) 3 h) refl)
 
   module _ (h : 3 ≤ length f) where
-    sending-is : (a : Answer (List ℕ)) → send s (getD f 1 0) (getD f 2 0) (drop 3 f) blockMax ≡ a → sendingFrame s f ≡ a
+    sending-is : (a : Answer (List ℕ)) → sendWrite s (getD f 1 0) (getD f 2 0) (drop 3 f) blockMax ≡ a → sendingFrame s f ≡ a
     unfolding sendingFrame answer order first number refusals resultOr
     sending-is (done x) e = rw (le-ltb (length f) 3 h, e) refl
     sending-is (refused r) e = rw (le-ltb (length f) 3 h) (through-refused e _)
@@ -168,12 +163,12 @@ module _ (s : Session) (f made : List ℕ) where
     module _ {b before after : List ℕ} {told : Answer ℕ} (e : b ≡ drop 3 f) (k : length before ≡ blockMax)
         (p : Leaves (sendingVerdict s (getD f 1 0) (getD f 2 0) b) before told after) where
       pub sending-refused : {r : Refusal} → told ≡ refused r → Replies (sendingFrame s f) made (Refused r)
-      unfolding send
+      unfolding sendWrite
       sending-refused {r} z =
           replies-refused made (sending-is (refused r) (rw (← e) (leaves-refused {decided = sendingVerdict s (getD f 1 0) (getD f 2 0) b} k p z)))
 
       pub sending-done : {n : ℕ} → told ≡ done n → Replies (sendingFrame s f) (after ++ made) (Bytes n)
-      unfolding send replied
+      unfolding sendWrite replied
       sending-done {n} z =
           let q = leaves-done {decided = sendingVerdict s (getD f 1 0) (getD f 2 0) b} k p z in
           record {

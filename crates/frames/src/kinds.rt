@@ -10,7 +10,7 @@ use octets::number4;
 use opening::open_session;
 use policy::placed::Placed;
 use policy::receive_placed;
-use policy::send;
+use policy::write::send_write;
 use rules::Advertised;
 use rules::BLOCK_MAX;
 use rules::Opened;
@@ -121,7 +121,8 @@ pub fn receipt_frame(
     }
 }
 
-// 03, sending: source, state, block; its result is the block. Internal.
+// 03, sending: source, state, block; its result is the block. There is room for any result, so that its length is not asked first (02, Q-6).
+// Internal.
 pub fn sending_frame(session: Session, frame: &[u8], made: &mut [u8]) -> Reply
     requires { ⌜ length (now made) ≡ resultMax ⌝ }
     ensures { λ r. ⌜ Replies (sendingFrame session (now (frame .entry))) (now (made .exit)) r ⌝ }
@@ -129,7 +130,7 @@ pub fn sending_frame(session: Session, frame: &[u8], made: &mut [u8]) -> Reply
     if frame.len() < SENDING_MIN {
         return Reply::Refused(Refusal::Unreadable);
     }
-    let sent = send(
+    let sent = send_write(
         session,
         frame[1],
         frame[2],

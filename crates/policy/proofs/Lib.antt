@@ -1,3 +1,4 @@
--- Laws of what is found of a block and of what the operations leave by it.
+-- Laws of what is found of a block, of what is decided by it, and of what the operations leave.
 pub mod Readings
-pub mod Leaving
+pub mod Deciding
+pub mod Sends

@@ -1,6 +1,8 @@
-// Receipt and sending (RFC 9234 section 5, RFC 8097; 01, "Receipt" and "Sending"; 02, Q-8 and Q-11): the checks, the verdict, and the
-// block rewritten.
+// Receipt (RFC 9234 section 5, RFC 8097; 01, "Receipt"; 02, Q-8 and Q-11): the checks, the verdict, and the block rewritten. Sending is two
+// calls, each in a file of its own.
 pub mod placed;
+pub mod size;
+pub mod write;
 
 use attributes::layout::Reading;
 use attributes::otc_as;
@@ -12,25 +14,18 @@ use communities::tags::ALL_TAGS;
 use placed::Placed;
 use rewriting::plan::Output;
 use rewriting::store;
-use rules::Advertised;
 use rules::Received;
 use rules::Refusal;
 use rules::Session;
 use settings::ranges::block_size_ok;
-use settings::ranges::sending_ok;
 use settings::ranges::session_ok;
-use settings::roles::OWN_ROUTE;
 use settings::states::UNAVAILABLE;
 use verdicts::new_flags;
 use verdicts::receipt_rule;
 use verdicts::received_otc;
 use verdicts::received_test;
-use verdicts::sending_rule;
-use verdicts::sent_otc;
-use verdicts::sent_tag;
-ghost use Rattle.rules.specs.Answers.{toldReceived, thrownReceived, stateReceived, toldAdvertised};
+ghost use Rattle.rules.specs.Answers.{toldReceived, thrownReceived, stateReceived};
 ghost use Rattle.rules.specs.Receipt.{GotNumbered};
-ghost use Rattle.rules.specs.Sending.{Sent};
 ghost use Rattle.policy.specs.Placed.{GotPlaced};
 
 // Receipt, handing on where the AS_PATH stands, for a caller that validates the origin. Internal.
@@ -92,38 +87,5 @@ pub fn receive(session: Session, block: &[u8], out: &mut [u8]) -> Received
             thrown_out,
             state: state as usize,
         },
-    }
-}
-
-// Sending (RFC 9234 section 5, egress): the route as it goes to the neighbour, or why it is withheld.
-pub fn send(session: Session, source: u8, state: u8, block: &[u8], out: &mut [u8]) -> Advertised
-    ensures { λ r. ⌜ Sent session source state (now (block .entry)) (now (out .entry)) (toldAdvertised r) (now (out .exit)) ⌝ }
-{
-    if !sending_ok(session, source, state) {
-        return Advertised::Refused(Refusal::BadSetting);
-    }
-    if !block_size_ok(block.len()) {
-        return Advertised::Refused(Refusal::BadLength);
-    }
-    let reading = read(block);
-    match reading {
-        Reading::Fault(fault) => {
-            return Advertised::Refused(Refusal::Malformed(fault));
-        }
-        Reading::Clean(layout) => {
-            let place = layout.otc;
-            let rule = sending_rule(session, source, state, place < block.len());
-            if rule != 0 {
-                return Advertised::Refused(Refusal::Withheld(rule));
-            }
-            let tag = sent_tag(session, source, state);
-            let asn = sent_otc(session, source, state);
-            let flags = new_flags(source == OWN_ROUTE);
-            let output = store(block, layout, ALL_TAGS, flags, tag, asn, out);
-            match output {
-                Output::Full => Advertised::Refused(Refusal::NoRoom),
-                Output::Bytes { length, thrown_out } => Advertised::Block(length),
-            }
-        }
     }
 }

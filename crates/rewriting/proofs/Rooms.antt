@@ -1,5 +1,5 @@
 -- What a caller is told of attributes that are to be stored, and what is left in the buffer.
-use mathlib.Core.Path.{refl, ap, _∙_}
+use mathlib.Core.Path.{_≡_, refl, ap, _∙_}
 use mathlib.Core.List.{List}
 use Prim.Native.Nat.{ℕ, _≤_, _<_}
 use native.Mathlib.Omega.{arith}
@@ -12,6 +12,12 @@ use Rattle.rules.specs.Changes.{noRoom, fitted, Leaves}
 use Rattle.rules.specs.declared.Refusal.the-variants.{NoRoom}
 use Rattle.octets.specs.Buffer.{Stored}
 use Rattle.octets.proofs.Splices.{splice-zero}
+use Rattle.rewriting.specs.Plan.{Stands}
+use Rattle.rewriting.specs.declared.plan.Plan.{Plan}
+
+-- A plan knows how long the attributes are that it stands for.
+pub stands-size : {b : List ℕ} {m : List Attribute} {p : Plan} → Stands b m p → p .size ≡ length (encode m)
+stands-size w = w .size ∙ ap length (w .is)
 
 module _ (m : List Attribute) (before : List ℕ) where
   pub no-room : length before < length (encode m) → Leaves (done m) before (refused NoRoom) before

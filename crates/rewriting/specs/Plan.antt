@@ -98,10 +98,13 @@ pub record Stands (b : List ℕ) (m : List Attribute) (p : Plan) : Type 0 where
   pub is : emitted b p ≡ encode m
   pub size : p .size ≡ length (emitted b p)
 
--- A plan for a block, with the test of what is dropped, the flags, the state of a tag and the AS of an OTC, stands for what `rules`
--- makes of it.
+-- What `rules` makes of a block with the test of what is dropped, the flags, the state of a tag and the AS of an OTC that these numbers stand
+-- for; and a plan that stands for it.
+abbrev pub outgoing : ℕ → ℕ → ℕ → ℕ → List ℕ → List Attribute
+outgoing test flags state asn b = rewritten (dropTest test) flags (toldTag state) (toldOtc asn) (attributes b)
+
 abbrev pub Planned : List ℕ → ℕ → ℕ → ℕ → ℕ → Plan → Type 0
-Planned b test flags state asn p = Stands b (rewritten (dropTest test) flags (toldTag state) (toldOtc asn) (attributes b)) p
+Planned b test flags state asn p = Stands b (outgoing test flags state asn b) p
 
 -- A block that has been read: it is readable, not too long, and the layout is its own.
 pub record ReadBlock (b : List ℕ) (l : Layout) : Type 0 where

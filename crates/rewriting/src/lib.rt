@@ -14,7 +14,17 @@ use planner::make_plan;
 use rules::BLOCK_MAX;
 use writer::write;
 ghost use Rattle.rewriting.specs.Plan.{ReadBlock};
-ghost use Rattle.rewriting.specs.Stores.{Rewrites, Counts};
+ghost use Rattle.rewriting.specs.Stores.{Measures, Rewrites, Counts};
+
+// How long a block that has been read is as it goes out. Nothing is stored, and of the block only its communities are walked. Internal.
+pub fn measure(block: &[u8], layout: Layout, test: u8, flags: u8, tag: u8, asn: u32) -> usize
+    requires { ⌜ ReadBlock (now block) layout ⌝ }
+    ensures { λ r. ⌜ Measures test flags tag asn (now (block .entry)) r ⌝ }
+{
+    let left = sift(test, value(block, layout.communities)).left;
+    let plan = make_plan(block, layout, left, test, flags, tag, asn);
+    plan.size
+}
 
 // Stores a block that has been read as it goes out, with the state of a tag (3: none) and the AS of an OTC (0: none), and tells how
 // many of its tags are thrown out, found in the walk for the length; or says that there is no room. Internal.

@@ -15,11 +15,11 @@ use Rattle.rules.specs.Roles.{counterpart, openSession}
 use Rattle.rules.specs.Attributes.{communitiesType}
 use Rattle.rules.specs.Changes.{thrownTold, newAttribute, withTag}
 use Rattle.rules.specs.Receipt.{receive, stateHandedOn}
-use Rattle.rules.specs.Sending.{ownRoute, send}
+use Rattle.rules.specs.Sending.{ownRoute, sendSize, sendWrite}
 use Rattle.rules.specs.Origin.{prefixIn, vrps, stateOver, originState, receivedTag}
 use Rattle.rules.specs.Index.{buildIndex, insertRecord, Finding, lookUp}
 use Rattle.rules.specs.Choice.{Candidate, Choice, choose, better, winnersBlock}
-use Rattle.rules.specs.Chain.{Hop, Call, sending, receipt, End, arrived, stopped, run, Order, inOrder, outOfOrder, orderOf}
+use Rattle.rules.specs.Chain.{Hop, Call, sizing, writing, receipt, End, arrived, stopped, run, Order, inOrder, outOfOrder, orderOf}
 use Rattle.rules.specs.Text.{fromHex}
 use Rattle.rules.specs.Desk.{vrpIn, vrpFrame, desk}
 use Rattle.rules.specs.declared.Refusal.{Refusal}
@@ -54,8 +54,9 @@ unfoldable pub thrownBeside : {A : Type 0} → Answer A → List ℕ → List �
 thrownBeside a b = orNothing (thrownTold (answerNumber a) b)
 
 unfoldable pub callNumber : Call → ℕ
-callNumber sending = 0
-callNumber receipt = 1
+callNumber sizing = 0
+callNumber writing = 1
+callNumber receipt = 2
 
 -- The end of a chain: 0 and the block, or 1, the hop, the call and the refusal.
 unfoldable pub endNumbers : End → List ℕ
@@ -65,7 +66,7 @@ endNumbers (stopped i c r) = 1 ∷ i ∷ callNumber c ∷ refusal r
 -- The end that the order of hops foretells, where b is what arrives.
 unfoldable pub foretold : Order → List ℕ → End
 foretold inOrder b = arrived b
-foretold (outOfOrder i rule) b = stopped i sending (Withheld rule)
+foretold (outOfOrder i rule) b = stopped i sizing (Withheld rule)
 
 -- ---- Cases
 
@@ -75,9 +76,11 @@ pub data Case : Type 0 where
   atDesk : String → String → Case
   -- opening: local role, strict, parameters
   opening : ℕ → ℕ → String → List ℕ → Case
-  -- receipt and sending: what they are handed, and what their buffer held
+  -- receipt, and the second call of sending: what they are handed, and what their buffer held
   receiving : Session → String → List ℕ → List ℕ → Case
   dispatching : Session → ℕ → ℕ → String → List ℕ → List ℕ → Case
+  -- both calls of sending (02, Q-6): session, source, state, a block as bytes, and how many the second's buffer has; what each of them tells
+  pairing : Session → ℕ → ℕ → List ℕ → ℕ → List ℕ → List ℕ → Case
   -- receipt again: the number of its answer, that of the tags thrown out, and the state handed on
   handingOn : Session → String → List ℕ → List ℕ → Case
   -- the buffer after the sending of an own route, state unavailable
@@ -139,8 +142,10 @@ holds (handingOn s b buffer wanted) =
     let a = receive s (hex b) (length buffer) in
     sameBytes (answerNumber a ∷ thrownBeside a (hex b) ++ orNothing (stateHandedOn s (answerNumber a) (hex b))) wanted
 holds (dispatching s source state b buffer wanted) =
-    sameBytes (numbers (λ r. r) (send s source state (hex b) (length buffer))) wanted
-holds (leaving s b buffer wanted) = sameBytes (stored (send s ownRoute 3 (hex b) (length buffer)) buffer) wanted
+    sameBytes (numbers (λ r. r) (sendWrite s source state (hex b) (length buffer))) wanted
+holds (pairing s source state b room first second) =
+    sameBytes (numbers (λ r. r ∷ []) (sendSize s source state b) ++ numbers (λ r. length r ∷ []) (sendWrite s source state b room)) (first ++ second)
+holds (leaving s b buffer wanted) = sameBytes (stored (sendWrite s ownRoute 3 (hex b) (length buffer)) buffer) wanted
 holds (tagging flags n wanted) = eqb (withTag 0 (newAttribute flags communitiesType (replicate (8 * n) 1)) .flags) wanted
 holds (validating w len prefix table b wanted) =
     sameBytes (numbers (λ r. r ∷ []) (originState w len (bigEndian (hex prefix)) 1 (hex table) (hex b))) wanted

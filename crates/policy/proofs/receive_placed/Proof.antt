@@ -25,7 +25,7 @@ use Rattle.rewriting.proofs.Thrown.{thrown-found}
 use Rattle.policy.specs.Placed.{toldPlaced, thrownPlaced, statePlaced}
 use Rattle.verdicts.proofs.Judging.{receipt-late}
 use Rattle.policy.proofs.Readings.{read-clean, has-found, otc-found, state-found}
-use Rattle.policy.proofs.Leaving.{rewritten-same, leaves-setting, leaves-length, leaves-fault, leaves-rule, leaves-output}
+use Rattle.policy.proofs.Deciding.{rewritten-same, decided-setting, decided-length, decided-fault, decided-rule, decided-passed, leaves-refused, leaves-made}
 use borrow.Author.Needs.{needs}
 use Rattle.policy.proofs.receive_placed.Statement.{statement}
 use Rattle.policy.proofs.receive_placed.Tie as tie
@@ -85,21 +85,23 @@ output c =
     let q = t .before .before in
     let r = passed (t .before) in
     let s = start r in
-    leaves-output (ok s) (block s) (rules s) (late s) (result s) (now (s .args .out)) (valid (r .before .before .before .before .before)) (clean r) (λ k. Ineligible k) (q .receipt-rule .result) (found q) (t .before .if3 .left)
-    (rewritten-same (attributes (block s)) (t .received-test .ensures) (flags-found f) refl (o .received-otc .ensures)) (c .store .ensures .0)
+    leaves-made
+    (decided-passed (ok s) (block s) (rules s) (late s) (result s) (valid (r .before .before .before .before .before)) (clean r) (λ k. Ineligible k) (q .receipt-rule .result) (found q) (t .before .if3 .left)
+    (rewritten-same (attributes (block s)) (t .received-test .ensures) (flags-found f) refl (o .received-otc .ensures)))
+    (c .store .ensures .0)
 
 returns : tie.Need-returns
 unfolding toldPlaced thrownPlaced statePlaced receiptVerdict thrownTold stateHandedOn answerNumber number oneOf exists
 returns c =
     let s = c .before .before .before .before in
-    record { got = record { got = leaves-setting (ok s) (block s) (rules s) (late s) (result s) (now (s .args .out)) (sym (c .before .session-ok .ensures) ∙ not-true _ (c .if1 .taken)); number = refl; stated = refl }; path = tt }
+    record { got = record { got = leaves-refused (now (s .args .out)) (decided-setting (ok s) (block s) (rules s) (late s) (result s) (sym (c .before .session-ok .ensures) ∙ not-true _ (c .if1 .taken))); number = refl; stated = refl }; path = tt }
 
 returns-2 : tie.Need-returns-2
 unfolding toldPlaced thrownPlaced statePlaced receiptVerdict thrownTold stateHandedOn answerNumber number oneOf exists
 returns-2 c =
     let e = c .before .before in
     let s = e .before .before .before .before in
-    record { got = record { got = leaves-length (ok s) (block s) (rules s) (late s) (result s) (now (s .args .out)) (valid e) (sym (c .before .block-size-ok .ensures) ∙ not-true _ (c .if2 .taken)); number = refl; stated = refl }; path = tt }
+    record { got = record { got = leaves-refused (now (s .args .out)) (decided-length (ok s) (block s) (rules s) (late s) (result s) (valid e) (sym (c .before .block-size-ok .ensures) ∙ not-true _ (c .if2 .taken))); number = refl; stated = refl }; path = tt }
 
 returns-3 : tie.Need-returns-3
 unfolding toldPlaced thrownPlaced statePlaced receiptVerdict thrownTold stateHandedOn answerNumber number oneOf exists
@@ -107,7 +109,7 @@ returns-3 c =
     let g = c .before .before .before .before in
     let e = g .before .before in
     let s = e .before .before .before .before in
-    record { got = record { got = leaves-fault (ok s) (block s) (rules s) (late s) (result s) (now (s .args .out)) (valid e) (small g) (c .before .before .before .read .ensures) (c .before .reading .given .1); number = refl; stated = refl }; path = tt }
+    record { got = record { got = leaves-refused (now (s .args .out)) (decided-fault (ok s) (block s) (rules s) (late s) (result s) (valid e) (small g) (c .before .before .before .read .ensures) (c .before .reading .given .1)); number = refl; stated = refl }; path = tt }
 
 returns-4 : tie.Need-returns-4
 unfolding toldPlaced thrownPlaced statePlaced receiptVerdict thrownTold stateHandedOn answerNumber number oneOf exists
@@ -116,7 +118,7 @@ returns-4 c =
     let q = t .before in
     let r = q .before .before .before .before in
     let s = start r in
-    record { got = record { got = leaves-rule (ok s) (block s) (rules s) (late s) (result s) (now (s .args .out)) (valid (r .before .before .before .before .before)) (clean r) (λ k. Ineligible k) (q .receipt-rule .result) (found q) (t .if3 .taken); number = ap some (thrown-found (clean r) (c .before .value2 .ensures) (c .sift .ensures .1)); stated = refl }; path = tt }
+    record { got = record { got = leaves-refused (now (s .args .out)) (decided-rule (ok s) (block s) (rules s) (late s) (result s) (valid (r .before .before .before .before .before)) (clean r) (λ k. Ineligible k) (q .receipt-rule .result) (found q) (t .if3 .taken)); number = ap some (thrown-found (clean r) (c .before .value2 .ensures) (c .sift .ensures .1)); stated = refl }; path = tt }
 
 received-otc-requires : tie.Need-received-otc-requires
 received-otc-requires c κs = valid (passed (c .before) .before .before .before .before .before)

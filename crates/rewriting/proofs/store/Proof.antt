@@ -1,44 +1,40 @@
 -- `store` meets its contract: what is left, the plan, and then room for it or none.
-use mathlib.Core.Path.{_≡_, ap, _∙_}
 use mathlib.Core.List.{List}
 use native.Mathlib.Omega.{arith}
-use lib.ListN.{length}
 use denote.Ref.{now}
-use Rattle.rules.specs.Attributes.{Attribute, attributes, encode}
-use Rattle.rules.specs.Changes.{dropFrom, rewritten}
-use Rattle.settings.specs.Told.{toldTag, toldOtc}
-use Rattle.communities.specs.Tags.{dropTest}
+use Rattle.rules.specs.Attributes.{Attribute}
+use Rattle.rewriting.specs.Plan.{outgoing}
 use Rattle.rewriting.specs.Stores.{toldOutput}
-use Rattle.rewriting.proofs.Rooms.{no-room, too-long, stored-whole}
-use Rattle.rewriting.proofs.Thrown.{thrown-found}
+use Rattle.rewriting.proofs.Rooms.{stands-size, no-room, too-long, stored-whole}
+use Rattle.rewriting.proofs.Thrown.{thrown-found, left-found}
 use borrow.Author.Needs.{needs}
 use Rattle.rewriting.proofs.store.Statement.{statement}
 use Rattle.rewriting.proofs.store.Tie as tie
 
 -- The attributes as they go out.
-abbrev outgoing : tie.Start → List Attribute
-outgoing s = rewritten (dropTest (s .args .test)) (s .args .flags) (toldTag (s .args .tag)) (toldOtc (s .args .asn)) (attributes (now (s .args .block)))
+abbrev made : tie.Start → List Attribute
+made s = outgoing (s .args .test) (s .args .flags) (s .args .tag) (s .args .asn) (now (s .args .block))
 
 make-plan-requires : tie.Need-make-plan-requires
 make-plan-requires c κs =
     let s = c .before .before .before .before in
-    (s .pre, c .sift .ensures .0 ∙ ap (λ v. length (dropFrom (dropTest (s .args .test)) v)) (c .before .value .ensures))
+    (s .pre, left-found (s .pre) (c .before .value .ensures) (s .args .test) (c .sift .ensures .0))
 
 returns : tie.Need-returns
 unfolding toldOutput
 returns c =
     let s = c .before .before .before .before .before .before in
     let p = c .before .make-plan .ensures in
-    let q : c .before .make-plan .result .size ≡ length (encode (outgoing s)) = p .size ∙ ap length (p .is) in
-    (no-room (outgoing s) (now (s .args .out)) (omega (arith, q, c .if1 .taken)), tt)
+    let q = stands-size p in
+    (no-room (made s) (now (s .args .out)) (omega (arith, q, c .if1 .taken)), tt)
 
 returns-2 : tie.Need-returns-2
 unfolding toldOutput
 returns-2 c =
     let s = c .before .before .before .before .before .before .before in
     let p = c .before .before .make-plan .ensures in
-    let q : c .before .before .make-plan .result .size ≡ length (encode (outgoing s)) = p .size ∙ ap length (p .is) in
-    (too-long (outgoing s) (now (s .args .out)) (omega (arith, q, c .before .if1 .left)) (omega (arith, q, c .if2 .taken)), tt)
+    let q = stands-size p in
+    (too-long (made s) (now (s .args .out)) (omega (arith, q, c .before .if1 .left)) (omega (arith, q, c .if2 .taken)), tt)
 
 returns-3 : tie.Need-returns-3
 unfolding toldOutput
@@ -49,8 +45,8 @@ returns-3 c =
     let f = m .before in
     let s = f .before .before .before .before in
     let p = m .make-plan .ensures in
-    let q : m .make-plan .result .size ≡ length (encode (outgoing s)) = p .size ∙ ap length (p .is) in (
-      stored-whole (outgoing s) (now (s .args .out)) (omega (arith, q, g .before .if1 .left)) (omega (arith, q, g .if2 .left)) (rw (p .is) at (w .write .ensures)),
+    let q = stands-size p in (
+      stored-whole (made s) (now (s .args .out)) (omega (arith, q, g .before .if1 .left)) (omega (arith, q, g .if2 .left)) (rw (p .is) at (w .write .ensures)),
       thrown-found (s .pre) (f .before .value .ensures) (f .sift .ensures .1),
     )
 

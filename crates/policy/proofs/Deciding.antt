@@ -1,5 +1,5 @@
--- What a call promises by what the code finds in turn: the settings, the size, the fault, the rule, the block stored. One law for
--- receipt and sending alike.
+-- What is decided of a block by what the code finds in turn: the settings, the size, the fault, the rule. One law for receipt and sending
+-- alike. And what receipt promises by it.
 use mathlib.Core.Path.{_≡_, refl, sym, ap, _∙_, subst}
 use mathlib.Core.Bool.{Bool, true, false}
 use mathlib.Core.List.{List, _++_}
@@ -29,50 +29,53 @@ pub rewritten-same : (l : List Attribute) {dropped test : List ℕ → Bool} {f 
     → test ≡ dropped → f ≡ g → tag ≡ state → otc ≡ asn → rewritten test f tag otc l ≡ rewritten dropped g state asn l
 rewritten-same l d p q r = rw (d, p, q, r) refl
 
-leaves-refused : {decided : Answer (List Attribute)} (before : List ℕ) {r : Refusal} → decided ≡ refused r → Leaves decided before (refused r) before
-unfolding fitted sized stored
-leaves-refused before e = rw e (record { answered = refl; buffer = refl })
-
-module _ (ok : Bool) (b : List ℕ) (rules : List Check) (late : Late rules) (m : List Attribute) (before : List ℕ) where
+module _ (ok : Bool) (b : List ℕ) (rules : List Check) (late : Late rules) (m : List Attribute) where
   abbrev verdict : Answer (List Attribute)
   verdict = answer order (blockChecks ok b ++ rules) m
 
-  pub leaves-setting : ok ≡ false → Leaves verdict before (refused BadSetting) before
-  leaves-setting e = leaves-refused before (checked-setting b rules late m e)
+  pub decided-setting : ok ≡ false → verdict ≡ refused BadSetting
+  decided-setting e = checked-setting b rules late m e
 
   module _ (e : ok ≡ true) where
-    pub leaves-length : leb (length b) blockMax ≡ false → Leaves verdict before (refused BadLength) before
-    leaves-length h = leaves-refused before (checked-length b rules late m e (leb-false (length b) blockMax h))
+    pub decided-length : leb (length b) blockMax ≡ false → verdict ≡ refused BadLength
+    decided-length h = checked-length b rules late m e (leb-false (length b) blockMax h)
 
-    pub leaves-fault : leb (length b) blockMax ≡ true → {r : Reading} {f : ℕ} → r ≡ reading b → r ≡ Fault f
-        → Leaves verdict before (refused (Malformed f)) before
-    leaves-fault h p q =
+    pub decided-fault : leb (length b) blockMax ≡ true → {r : Reading} {f : ℕ} → r ≡ reading b → r ≡ Fault f → verdict ≡ refused (Malformed f)
+    decided-fault h p q =
         let k = fault-read b p q in
-        leaves-refused before (checked-fault b rules late m e (leb-true (length b) blockMax h) (k .0) (k .1))
+        checked-fault b rules late m e (leb-true (length b) blockMax h) (k .0) (k .1)
 
     by-rules : {l : Layout} → ReadBlock b l → verdict ≡ answer order rules m
     by-rules w = checked-passed b rules late m e (w .small) (w .clean)
 
     module _ {l : Layout} (w : ReadBlock b l) (refusal : ℕ → Refusal) (k : ℕ) (a : judged rules ≡ ruled refusal k) where
       -- A rule applies.
-      pub leaves-rule : (k ≡ 0 → ⊥) → Leaves verdict before (refused (refusal k)) before
-      leaves-rule n = go k n a
+      pub decided-rule : (k ≡ 0 → ⊥) → verdict ≡ refused (refusal k)
+      decided-rule n = go k n a
         where
           told : (k : ℕ) → judged rules ≡ ruled refusal (suc k) → judged rules ≡ refused (refusal (suc k))
           told k a = unfold ruled in a
 
-          go : (k : ℕ) → (k ≡ 0 → ⊥) → judged rules ≡ ruled refusal k → Leaves verdict before (refused (refusal k)) before
+          go : (k : ℕ) → (k ≡ 0 → ⊥) → judged rules ≡ ruled refusal k → verdict ≡ refused (refusal k)
           go zero n a = absurd (n refl)
           go (suc k) n a =
               let d = answer-says order rules 0 (refusal (suc k)) (told k a) in
-              leaves-refused before (by-rules w ∙ answer-decided order m (d .0) (d .1))
+              by-rules w ∙ answer-decided order m (d .0) (d .1)
 
-      -- None does, and what was made, which is the result, was stored, or there was no room for it.
-      pub leaves-output : k ≡ 0 → {made : List Attribute} → made ≡ m → {told : Answer ℕ} {after : List ℕ} → Leaves (done made) before told after
-          → Leaves verdict before told after
-      leaves-output z e {told} {after} p =
+      -- None does, and what is made is the result.
+      pub decided-passed : k ≡ 0 → {made : List Attribute} → made ≡ m → verdict ≡ done made
+      decided-passed z e =
           let d = answer-done order rules 0 0 (a ∙ none) in
-          subst (λ (x : Answer (List Attribute)). Leaves x before told after) (ap done e ∙ sym (by-rules w ∙ answer-passed order rules m (d .1))) p
+          by-rules w ∙ answer-passed order rules m (d .1) ∙ ap done (sym e)
         where
           none : ruled refusal k ≡ done 0
           none = unfold ruled in rw z refl
+
+-- What a call leaves by what is decided: a refusal nothing.
+pub leaves-refused : {decided : Answer (List Attribute)} (before : List ℕ) {r : Refusal} → decided ≡ refused r → Leaves decided before (refused r) before
+unfolding fitted sized stored
+leaves-refused before e = rw e (record { answered = refl; buffer = refl })
+
+pub leaves-made : {decided : Answer (List Attribute)} {made : List Attribute} → decided ≡ done made → {before : List ℕ} {told : Answer ℕ} {after : List ℕ}
+    → Leaves (done made) before told after → Leaves decided before told after
+leaves-made e {before} {told} {after} p = subst (λ (x : Answer (List Attribute)). Leaves x before told after) (sym e) p
