@@ -11,7 +11,7 @@
 #include <stdint.h>
 
 /* The version of this interface; the pkg-config file has it too. */
-#define BGP_POLICY_VERSION "0.7.0"
+#define BGP_POLICY_VERSION "0.8.0"
 
 #ifdef __cplusplus
 extern "C" {
@@ -40,7 +40,10 @@ extern "C" {
  * local_as, remote_as   the two AS numbers of the session: not 0, and not equal
  * one_administration    1 where both ends are under one administration and tags cross between them, else 0, the default for EBGP
  *                       peers (RFC 8097 section 2). It may not be 1 where local_role is 1: a route server must strip tags
- * out, out_len          the output buffer: where it begins, and how many bytes it has; 4,073 is always enough
+ *
+ * Of receipt and bgp_send_write
+ * out, out_len          the output buffer: where it begins, and how many bytes it has; 4,073 is always enough, and for
+ *                       bgp_send_write the length that bgp_send_size tells
  *
  * Of receipt and received tag
  * thrown_out            where it goes how many tags of the block have a value above 2: such a tag is erroneous and tells no state
@@ -91,8 +94,9 @@ extern "C" {
  *
  *  0  done
  *       opening: the two ends agree                         the other end's role
- *       receipt, sending: the new block is at the start
- *       of out                                              its length in bytes
+ *       receipt, bgp_send_write: the new block is at the
+ *       start of out                                        its length in bytes
+ *       bgp_send_size: the route may go out                 the length in bytes of the block that goes
  *       origin state, received tag                          the state: 0 valid, 1 not found, 2 invalid; of a tag also 3,
  *                                                           unavailable
  *       choosing, comparing two                             the index of the route, from 0
@@ -111,9 +115,10 @@ extern "C" {
  *     length is no multiple of 10 (IPv4 VRPs), of 22 (IPv6
  *     VRPs) or of 17 (candidates); or a record to insert
  *     that is not one VRP, or one VRP too many              0
- *  7  no room: the result is longer than out or than 4,073
- *     (receipt and sending), or the memory has too few
- *     numbers for the index (build and insertion)           0
+ *  7  no room: the result is longer than 4,073 (receipt and
+ *     sending) or than out (receipt and bgp_send_write), or
+ *     the memory has too few numbers for the index (build
+ *     and insertion)                                        0
  *  8  OPEN parameters malformed (opening only)              0
  *  9  bad VRP record: its length above its maximum, or its
  *     maximum above 32, of IPv6 VRPs above 128 (origin
@@ -149,14 +154,33 @@ uint8_t bgp_receive(uint32_t local_as, uint32_t remote_as, uint8_t local_role, u
  * Sending: what goes out to the other end. Every tag goes, and one of the state, unless that is 3, is added towards an RS-Client,
  * with one_administration 1 towards any role; an invalid route is then withheld in no mode, since the other end is no RS-Client.
  * A new OTC, and a new attribute for the tag, begin C0 on an own route, else E0, with the Partial bit (RFC 4271 section 5).
+ * It has two functions, for a caller that must ask for room before it sends. With the arguments up to block_len the same in both:
+ *
+ *     size_t length, written;
+ *     uint8_t answer = bgp_send_size(.., block, block_len, &length);
+ *     if (answer == 0) {
+ *         uint8_t *out = room(length);
+ *         answer = bgp_send_write(.., block, block_len, out, length, &written); // 0, and written is length
+ *     }
  *
  * source   255 for an own route, else the role (0 to 4) of the neighbour that the route was learned from
  * state    the origin validation state: 0 valid, 1 not found, 2 invalid, 3 unavailable
  */
-uint8_t bgp_send(uint32_t local_as, uint32_t remote_as, uint8_t local_role, uint8_t mode, uint8_t one_administration,
-                 uint8_t source, uint8_t state,
-                 const uint8_t *block, size_t block_len,
-                 uint8_t *out, size_t out_len, size_t *beside);
+
+/* The verdict, and the exact length of the block that goes out. Nothing is written. Answer 7 is for a length above 4,073 alone. */
+uint8_t bgp_send_size(uint32_t local_as, uint32_t remote_as, uint8_t local_role, uint8_t mode, uint8_t one_administration,
+                      uint8_t source, uint8_t state,
+                      const uint8_t *block, size_t block_len,
+                      size_t *beside);
+
+/*
+ * The block that goes out, written. Every check is made here too, so that no earlier call is needed. The answer and *beside are
+ * those of bgp_send_size for the same arguments, but that after a 0 there the answer is 7 where out is shorter than that length.
+ */
+uint8_t bgp_send_write(uint32_t local_as, uint32_t remote_as, uint8_t local_role, uint8_t mode, uint8_t one_administration,
+                       uint8_t source, uint8_t state,
+                       const uint8_t *block, size_t block_len,
+                       uint8_t *out, size_t out_len, size_t *beside);
 
 /*
  * Origin state of an IPv4 route: whether the VRPs of a table say that the AS at the end of the block's AS_PATH may originate the

@@ -1,7 +1,7 @@
 /*
- * Every function of bgp_policy.h but the index's, on cases of the documents: the answer, the number beside it and every byte of
- * the buffer, and that the bytes handed in stay. Prints a line for each check, last 'N passed, M failed'; the status is 0 where
- * none failed.
+ * Every function of bgp_policy.h but those of sending and of the index, on cases of the documents: the answer, the number beside it
+ * and every byte of the buffer, and that the bytes handed in stay. Prints a line for each check, last 'N passed, M failed'; the
+ * status is 0 where none failed.
  */
 #include "checks.h"
 #include <bgp_policy.h>
@@ -29,21 +29,6 @@ static void receipt(const char *name, uint8_t role, uint8_t mode, const char *bl
                     unsigned want, size_t want_beside, size_t thrown_out, const char *stored)
 {
     owned_receipt(name, role, mode, 0, block, room, want, want_beside, thrown_out, 3, stored);
-}
-
-/* Sending by AS 64500 to AS 64510, likewise. */
-static void owned_sending(const char *name, uint8_t role, uint8_t mode, uint8_t one, uint8_t source, uint8_t state,
-                          const char *block, size_t room, unsigned want, size_t want_beside, const char *stored)
-{
-    size_t n = hand(0, block);
-    check("bgp_send", name, bgp_send(64500, 64510, role, mode, one, source, state, in[0], n, out, room, &beside),
-          want, want_beside, UNSET, stored);
-}
-
-static void sending(const char *name, uint8_t role, uint8_t mode, uint8_t source, uint8_t state, const char *block, size_t room,
-                    unsigned want, size_t want_beside, const char *stored)
-{
-    owned_sending(name, role, mode, 0, source, state, block, room, want, want_beside, stored);
 }
 
 static void origin(const char *name, uint8_t length, uint32_t prefix, const char *table, const char *block,
@@ -92,7 +77,7 @@ static void comparing(const char *name, const char *first, const char *second, u
     check("bgp_better", name, bgp_better(in[0], m, 0, 1, 7, in[1], n, state, 2, 7, &beside), want, want_beside, UNSET, "");
 }
 
-/* Under one administration receipt keeps tags of 0 to 2, which tell the state, and sending tags towards any role. */
+/* Under one administration receipt keeps tags of 0 to 2, which tell the state. */
 static void one_owner(void)
 {
     static const char tags[] = OWN "C01018" TAG "01" TAG "07" TAG "00";
@@ -111,19 +96,6 @@ static void one_owner(void)
     owned_receipt("one owner at a route server", 1, 1, 1, OWN, BLOCK_MAX, 5, 0, 0, 3, "");
     owned_receipt("byte 2", 0, 1, 2, OWN, BLOCK_MAX, 5, 0, 0, 3, "");
     owned_receipt("byte 2, 4,074 bytes", 0, 1, 2, filled(OVER, 4074), sizeof out, 5, 0, 0, 3, "");
-
-    owned_sending("one owner, valid, to a Provider", 3, 1, 1, 255, 0, OWN, BLOCK_MAX, 0, 18, OWN "C01008" TAG "00");
-    owned_sending("one owner, invalid, to a Peer, mode 2", 4, 2, 1, 3, 2, OWN "C01008" TAG "00", BLOCK_MAX, 0, 25,
-                  OWN "E01008" TAG "02" PARTIAL_OTC "0000FBF4");
-    owned_sending("one owner, invalid, to a Customer, mode 0", 0, 0, 1, 255, 2, OWN, BLOCK_MAX, 0, 25,
-                  OWN "C01008" TAG "02" OTC "0000FBF4");
-    owned_sending("one owner, not found, to an RS", 2, 1, 1, 3, 1, OWN "C01010" OTHER TAG "07", BLOCK_MAX, 0, 26,
-                  OWN "C01010" OTHER TAG "01");
-    owned_sending("one owner, unavailable, to a Peer", 4, 1, 1, 255, 3, OWN "C01008" TAG "00", BLOCK_MAX, 0, 14, OWN OTC "0000FBF4");
-    owned_sending("one owner, a byte too little", 3, 1, 1, 255, 0, OWN, 17, 7, 0, "");
-    owned_sending("one owner, from a Provider to a Peer", 4, 1, 1, 0, 0, OWN, BLOCK_MAX, 2, 2, "");
-    owned_sending("one owner at a route server", 1, 1, 1, 255, 0, OWN, BLOCK_MAX, 5, 0, "");
-    owned_sending("byte 255", 4, 1, 255, 255, 0, OWN, BLOCK_MAX, 5, 0, "");
 }
 
 int main(void)
@@ -162,32 +134,6 @@ int main(void)
             OWN "C01008" OTHER);
     receipt("no ORIGIN", 4, 1, "400200", BLOCK_MAX, 3, 3, 0, "");
     receipt("mode 4", 4, 4, PATH, BLOCK_MAX, 5, 0, 0, "");
-
-    sending("P4, an own route to a Peer", 4, 1, 255, 3, OWN, BLOCK_MAX, 0, 14, OWN OTC "0000FBF4");
-    sending("P4, a byte too little", 4, 1, 255, 3, OWN, 13, 7, 0, "");
-    sending("P5, from a Provider to a Peer", 4, 1, 0, 3, OWN, BLOCK_MAX, 2, 2, "");
-    sending("an OTC to a Peer", 4, 1, 255, 3, OWN OTC "00000001", BLOCK_MAX, 2, 1, "");
-    sending("mode 2, invalid, to an RS-Client", 1, 2, 2, 2, OWN, BLOCK_MAX, 2, 3, "");
-    sending("mode 0, invalid, to an RS-Client", 1, 0, 2, 2, OWN, BLOCK_MAX, 2, 3, "");
-    sending("mode 0, not found, to an RS-Client", 1, 0, 255, 1, OWN, BLOCK_MAX, 0, 25, OWN "C01008" TAG "01" OTC "0000FBF4");
-    sending("mode 0, invalid, to a Peer", 4, 0, 255, 2, OWN, BLOCK_MAX, 0, 14, OWN OTC "0000FBF4");
-    sending("mode 1, invalid, to an RS-Client", 1, 1, 2, 2, OWN, BLOCK_MAX, 0, 25, OWN "E01008" TAG "02" PARTIAL_OTC "0000FBF4");
-    sending("the same of an own route", 1, 1, 255, 2, OWN, BLOCK_MAX, 0, 25, OWN "C01008" TAG "02" OTC "0000FBF4");
-    sending("a Customer's route to a Peer", 4, 1, 3, 3, OWN, BLOCK_MAX, 0, 14, OWN PARTIAL_OTC "0000FBF4");
-    block = text(OWN "C010F0", OTHER, 30, "");
-    sending("30 communities and a tag", 1, 1, 2, 1, block, BLOCK_MAX, 0, 265,
-            text(OWN "C010F8", OTHER, 30, TAG "01" PARTIAL_OTC "0000FBF4"));
-    block = text(OWN "C010F8", OTHER, 31, "");
-    sending("31 communities and a tag", 1, 1, 2, 1, block, BLOCK_MAX, 0, 274,
-            text(OWN "D0100100", OTHER, 31, TAG "01" PARTIAL_OTC "0000FBF4"));
-    block = text(OWN "E010F8", OTHER, 31, "");
-    sending("31 in a partial attribute, own route", 1, 1, 255, 1, block, BLOCK_MAX, 0, 274,
-            text(OWN "F0100100", OTHER, 31, TAG "01" OTC "0000FBF4"));
-    block = filled(FULL, 4073);
-    sending("4,073 bytes to a Provider", 3, 1, 255, 3, block, BLOCK_MAX, 0, 4073, block);
-    sending("4,074 bytes", 3, 1, 255, 3, filled(OVER, 4074), sizeof out, 6, 0, "");
-    sending("an OTC of 3 bytes", 4, 1, 255, 3, OWN "C02303000001", BLOCK_MAX, 3, 5, "");
-    sending("source 5", 4, 1, 5, 3, OWN, BLOCK_MAX, 5, 0, "");
     one_owner();
 
     origin("P6, 10.0.16.0/20", 20, 0x0A001000, vrp, BY_64500, 0, 0);

@@ -1,7 +1,7 @@
-//! Chains of hops, each a sending and then a receipt on one session: run through an implementation, and seeded.
+//! Chains of hops, each a sending in its two calls and then a receipt on one session: run through an implementation, and seeded.
 use crate::counterpart;
 use crate::generate::{attributes, block, encode, filled, Random, ASNS};
-use crate::sides::{as_receipt, Side, Stored};
+use crate::sides::{as_receipt, Sending, Side, Stored};
 use bgp_policy::{Session, BLOCK_MAX, OWN_ROUTE};
 
 /// A hop: the session as each of its ends sees it, and the state that the sending is handed.
@@ -41,34 +41,87 @@ impl Hop {
     pub fn to(&self) -> u8 {
         self.receiving.local_role
     }
+
+    // One of the hop's calls, on a route from this source, with a buffer that held `before`.
+    fn make(&self, call: Call, side: &Side, source: u8, block: &[u8], before: &[u8]) -> Stored {
+        let sending = Sending {
+            session: self.sending,
+            source,
+            state: self.state,
+        };
+        Stored::by(before, |out| match call {
+            Call::Send => as_receipt(sending.size(side, block)),
+            Call::Write => as_receipt(sending.write(side, block, out)),
+            Call::Receive => (side.receive)(self.receiving, block, out),
+        })
+    }
 }
 
-/// The calls of a chain, a sending and a receipt in turn, up to the first not answered 0. Each is handed exactly the bytes that
-/// the one before it stored; `buffer` gives what an output buffer held before.
+/// The calls of a hop, in their order and by the names that the vectors give them: the verdict on what is sent, with its length; the
+/// writing of it; the receipt.
+#[derive(Clone, Copy, Debug, PartialEq)]
+pub enum Call {
+    Send,
+    Write,
+    Receive,
+}
+
+impl Call {
+    pub const ALL: [Call; 3] = [Call::Send, Call::Write, Call::Receive];
+}
+
+/// A call that was made: the index of its hop, counted from 0, which one of the hop's it is, and what it gave.
+#[derive(Debug, PartialEq)]
+pub struct Made {
+    pub hop: usize,
+    pub call: Call,
+    pub given: Stored,
+}
+
+/// The calls of a chain, up to the first not answered 0. Both calls of a sending get the same input, and after that each call exactly the
+/// bytes that were stored last. `buffer` gives what an output buffer of at least so many bytes held before.
 pub fn run(
     side: &Side,
     originated: &[u8],
     hops: &[Hop],
-    mut buffer: impl FnMut() -> Vec<u8>,
-) -> Vec<Stored> {
-    let mut calls: Vec<Stored> = Vec::new();
+    mut buffer: impl FnMut(usize) -> Vec<u8>,
+) -> Vec<Made> {
+    let mut calls = Vec::new();
+    let mut block = originated.to_vec();
     let mut source = OWN_ROUTE;
-    for hop in hops {
-        for receipt in [false, true] {
-            let block = match calls.last().map(Stored::block) {
-                None => originated,
-                Some(Some(block)) => block,
-                Some(None) => return calls,
+    for (at, hop) in hops.iter().enumerate() {
+        let mut length = 0;
+        for call in Call::ALL {
+            let before = match call {
+                Call::Send => Vec::new(),
+                // the room that the verdict says is enough
+                Call::Write => buffer(length),
+                Call::Receive => buffer(BLOCK_MAX),
             };
-            let call = Stored::by(&buffer(), |out| match receipt {
-                false => as_receipt((side.send)(hop.sending, source, hop.state, block, out)),
-                true => (side.receive)(hop.receiving, block, out),
+            let given = hop.make(call, side, source, &block, &before);
+            let answer;
+            (answer, length) = given.told;
+            if answer == 0 && call != Call::Send {
+                block = given.buffer[..length].to_vec();
+            }
+            calls.push(Made {
+                hop: at,
+                call,
+                given,
             });
-            calls.push(call);
+            if answer != 0 {
+                return calls;
+            }
         }
         source = hop.sending.local_role;
     }
     calls
+}
+
+/// Which calls were made, each by the index of its hop, and what they answered.
+pub fn answers(calls: &[Made]) -> Vec<(usize, Call, u8)> {
+    let answer = |made: &Made| (made.hop, made.call, made.given.told.0);
+    calls.iter().map(answer).collect()
 }
 
 /// How a chain ends: with the block on arrival, or at a call of the hop with this index, counted from 0.
@@ -77,23 +130,22 @@ pub enum End {
     Arrived(Vec<u8>),
     Stopped {
         hop: usize,
-        call: &'static str,
+        call: Call,
         told: (u8, usize),
     },
 }
 
 /// The end of a chain with these calls.
-pub fn end(originated: &[u8], calls: &[Stored]) -> End {
+pub fn end(originated: &[u8], calls: &[Made]) -> End {
     let Some(last) = calls.last() else {
         return End::Arrived(originated.to_vec());
     };
-    let index = calls.len() - 1;
-    match last.block() {
+    match last.given.block() {
         Some(block) => End::Arrived(block.to_vec()),
         None => End::Stopped {
-            hop: index / 2,
-            call: ["send", "recv"][index % 2],
-            told: last.told,
+            hop: last.hop,
+            call: last.call,
+            told: last.given.told,
         },
     }
 }
@@ -166,9 +218,11 @@ pub fn originated(random: &mut Random) -> Vec<u8> {
     }
 }
 
-/// What an output buffer may have held: any bytes, or attributes, which a reader that goes too far would take for more.
-pub fn garbage(random: &mut Random) -> Vec<u8> {
-    let length = BLOCK_MAX + random.below(200);
+/// What an output buffer of just so many bytes or some more may have held: any bytes, or attributes, which a reader that goes too far
+/// would take for more.
+pub fn garbage(random: &mut Random, room: usize) -> Vec<u8> {
+    let more = random.below(200);
+    let length = room + random.pick(&[0, 1, more]);
     match random.below(3) {
         0 => random.bytes(length),
         1 => vec![random.byte(); length],

@@ -9,7 +9,7 @@ pub type Compared = Result<(), String>;
 
 /// The folder of the vectors of all functions but the index.
 pub fn folder() -> PathBuf {
-    Path::new(env!("CARGO_MANIFEST_DIR")).join("../vectors/Q-11")
+    Path::new(env!("CARGO_MANIFEST_DIR")).join("../vectors/Q-06")
 }
 
 /// The folder of the vectors of the index.

@@ -1,5 +1,5 @@
-//! "The chain" of document 01, with document 02's Q-11: where a chain of hops ends, and what arrives.
-use crate::chain::{End, Hop};
+//! "The chain" of document 01, with document 02's: the calls of a chain of hops, what they answer, and what arrives.
+use crate::chain::{answers, end, Call, End, Hop, Made};
 use crate::reference::{read, Attribute};
 use crate::shown;
 
@@ -25,6 +25,20 @@ fn out_of_order(hops: &[Hop]) -> Option<(usize, usize)> {
         marked |= marks(hop);
     }
     None
+}
+
+// The calls of a chain, each with its hop and its answer: all three of every hop before the first out of order, and of that hop the first
+// alone, since a sending is two calls, "the second only after a 0".
+fn due(hops: &[Hop]) -> Vec<(usize, Call, u8)> {
+    let out = out_of_order(hops).map(|(index, _)| index);
+    let zeros = (0..out.unwrap_or(hops.len())).flat_map(|hop| Call::ALL.map(|call| (hop, call, 0)));
+    zeros.chain(out.map(|hop| (hop, Call::Send, 2))).collect()
+}
+
+// Whether what is written of each sending is as long as its verdict said.
+fn lengths_agree(calls: &[Made]) -> bool {
+    let mut pairs = calls.windows(2).filter(|pair| pair[1].call == Call::Write);
+    pairs.all(|pair| pair[0].given.told == pair[1].given.told)
 }
 
 fn marks(hop: &Hop) -> bool {
@@ -84,17 +98,15 @@ fn wrong_arrival(originated: &[u8], hops: &[Hop], arrived: &[u8]) -> Option<&'st
         .map(|(_, how)| how)
 }
 
-/// Whether a chain ended as document 01 says; else how it ended.
-pub fn as_it_should(originated: &[u8], hops: &[Hop], ended: &End) -> Result<(), String> {
-    let wrong = match (out_of_order(hops), ended) {
-        (None, End::Arrived(block)) => wrong_arrival(originated, hops, block),
-        (Some((index, rule)), &End::Stopped { hop, call, told }) => {
-            let same = (hop, call, told) == (index, "send", (2, rule));
-            (!same).then_some("stopped elsewhere")
-        }
-        (None, _) => Some("stopped in order"),
-        (Some(_), _) => Some("arrived out of order"),
+/// Whether a chain with these calls went as document 01 says; else how it went.
+pub fn as_it_should(originated: &[u8], hops: &[Hop], calls: &[Made]) -> Result<(), String> {
+    let rule = out_of_order(hops).map(|(_, rule)| rule);
+    let wrong = match end(originated, calls) {
+        _ if answers(calls) != due(hops) => Some("other calls or answers"),
+        _ if !lengths_agree(calls) => Some("two lengths of one sending"),
+        End::Arrived(block) => wrong_arrival(originated, hops, &block),
+        End::Stopped { told, .. } => (rule != Some(told.1)).then_some("another rule"),
     };
-    let told = |how| format!("{how}: {hops:?}, {}: {ended:X?}", shown(originated));
+    let told = |how| format!("{how}: {hops:?}, {}: {calls:?}", shown(originated));
     wrong.map_or(Ok(()), |how| Err(told(how)))
 }

@@ -9,7 +9,8 @@ pub struct Side {
     pub name: &'static str,
     pub open: fn(u8, u8, &[u8]) -> (u8, usize),
     pub receive: fn(Session, &[u8], &mut [u8]) -> Receipt,
-    pub send: fn(Session, u8, u8, &[u8], &mut [u8]) -> (u8, usize),
+    pub send_size: fn(Session, u8, u8, &[u8]) -> (u8, usize),
+    pub send_write: fn(Session, u8, u8, &[u8], &mut [u8]) -> (u8, usize),
     pub origin_state: fn(u8, u32, u32, &[u8], &[u8]) -> (u8, usize),
     pub origin_state6: fn(u8, u128, u32, &[u8], &[u8]) -> (u8, usize),
     pub received_tag: fn(&[u8]) -> (u8, usize, usize),
@@ -24,7 +25,8 @@ macro_rules! side {
             name: $name,
             open: $module::open,
             receive: $module::receive,
-            send: $module::send,
+            send_size: $module::send_size,
+            send_write: $module::send_write,
             origin_state: $module::origin_state,
             origin_state6: $module::origin_state6,
             received_tag: $module::received_tag,
@@ -42,6 +44,41 @@ pub const REFERENCE: Side = side!("the reference", reference);
 pub const FAST: Side = side!("fast Rust", fast);
 
 pub const SIDES: [Side; 3] = [LIBRARY, REFERENCE, FAST];
+
+/// The library with a `send_size` that tells something else in the place of what fits a pattern, to see that it is found.
+#[macro_export]
+macro_rules! wrong_size {
+    ($name:literal, $told:pat => $other:expr) => {
+        $crate::sides::Side {
+            name: $name,
+            send_size: |session, source, state, block| match bgp_policy::send_size(
+                session, source, state, block,
+            ) {
+                $told => $other,
+                told => told,
+            },
+            ..$crate::sides::LIBRARY
+        }
+    };
+}
+
+/// What both functions of a sending are handed beside the block.
+#[derive(Clone, Copy, Debug)]
+pub struct Sending {
+    pub session: Session,
+    pub source: u8,
+    pub state: u8,
+}
+
+impl Sending {
+    pub fn size(self, side: &Side, block: &[u8]) -> (u8, usize) {
+        (side.send_size)(self.session, self.source, self.state, block)
+    }
+
+    pub fn write(self, side: &Side, block: &[u8], out: &mut [u8]) -> (u8, usize) {
+        (side.send_write)(self.session, self.source, self.state, block, out)
+    }
+}
 
 /// What a call tells, the number of tags thrown out and the state handed on with it, and the whole buffer that it leaves.
 #[derive(PartialEq)]

@@ -1,30 +1,28 @@
 //! Receipt and sending: the library, the reference and fast Rust agree over seeded inputs, buffers to their end.
-use bgp_policy::{Receipt, Session, BLOCK_MAX, OWN_ROUTE};
-use policy_tests::chain::one_administration;
-use policy_tests::generate::{
-    attributes, block, block_of_length, communities, damaged, encode, faulty_block, Attribute,
-    Random, ASNS,
-};
-use policy_tests::sides::{agree, as_receipt, Side, Stored, LIBRARY};
+use bgp_policy::{Receipt, Session, BLOCK_MAX};
+use policy_tests::generate::{attributes, block, block_of_length, communities, encode};
+use policy_tests::generate::{Attribute, Random};
+use policy_tests::settings::{sending, session, some_block};
+use policy_tests::sides::{agree, as_receipt, Sending, Side, Stored, LIBRARY};
 use policy_tests::tables::Tally;
 use policy_tests::{patterns, shown};
 
 const ROUNDS: usize = 60_000;
 
-// A call of either function.
+// A call of one of the functions.
 #[derive(Clone, Copy, Debug)]
 enum Call {
     Receive(Session),
-    Send(Session, u8, u8),
+    SendSize(Sending),
+    SendWrite(Sending),
 }
 
 impl Call {
     fn at(self, side: &Side, block: &[u8], out: &mut [u8]) -> Receipt {
         match self {
             Call::Receive(session) => (side.receive)(session, block, out),
-            Call::Send(session, source, state) => {
-                as_receipt((side.send)(session, source, state, block, out))
-            }
+            Call::SendSize(sending) => as_receipt(sending.size(side, block)),
+            Call::SendWrite(sending) => as_receipt(sending.write(side, block, out)),
         }
     }
 }
@@ -45,8 +43,12 @@ fn agree_in(call: Call, block: &[u8], cap: usize, tally: &mut Tally) -> (u8, usi
     (answer, beside)
 }
 
-// One call in an ample buffer, then in buffers of the sizes that matter to its answer.
+// One call in an ample buffer, then in buffers of the sizes that matter to its answer; where it takes no buffer, once.
 fn agree_in_sizes(random: &mut Random, call: Call, block: &[u8], tally: &mut Tally) {
+    if let Call::SendSize(..) = call {
+        agree_in(call, block, 0, tally);
+        return;
+    }
     let (answer, length) = agree_in(call, block, BLOCK_MAX + random.below(900), tally);
     if answer == 0 {
         for cap in length - 2..=length + 2 {
@@ -58,59 +60,16 @@ fn agree_in_sizes(random: &mut Random, call: Call, block: &[u8], tally: &mut Tal
     }
 }
 
-fn session(random: &mut Random) -> Session {
-    let local_role = random.below(5) as u8;
-    let mut session = Session {
-        local_as: ASNS[0],
-        remote_as: ASNS[1],
-        local_role,
-        mode: random.below(4) as u8,
-        one_administration: one_administration(random, local_role),
-    };
-    match random.below(80) {
-        0 => session.local_as = 0,
-        1 => session.remote_as = 0,
-        2 => session.local_as = session.remote_as,
-        3 => session.local_role = random.pick(&[5, 6, 255]),
-        4 => session.mode = random.pick(&[4, 5, 255]),
-        // at a route server, which strips every tag, a byte of 1 is out of range too
-        5 => session.one_administration = random.pick(&[1, 1, 2, 255]),
-        6..=21 => session.remote_as = random.pick(&ASNS[2..]),
-        _ => {}
-    }
-    session
-}
-
 fn receipt(random: &mut Random) -> Call {
     Call::Receive(session(random))
 }
 
-fn sending(random: &mut Random) -> Call {
-    let source = match random.below(40) {
-        0 => random.pick(&[5, 6, 254]),
-        1..=16 => OWN_ROUTE,
-        _ => random.below(5) as u8,
-    };
-    let state = match random.below(40) {
-        0 => random.pick(&[4, 5, 255]),
-        _ => random.below(4) as u8,
-    };
-    Call::Send(session(random), source, state)
+fn sizing(random: &mut Random) -> Call {
+    Call::SendSize(sending(random))
 }
 
-fn some_block(random: &mut Random) -> Vec<u8> {
-    match random.below(10) {
-        0..=4 => block(random),
-        5..=6 => faulty_block(random),
-        7..=8 => {
-            let sound = block(random);
-            damaged(random, sound)
-        }
-        _ => {
-            let length = random.pick(&[4_055, 4_066, 4_067, 4_073, 4_074, 5_000]);
-            block_of_length(random, length)
-        }
-    }
+fn writing(random: &mut Random) -> Call {
+    Call::SendWrite(sending(random))
 }
 
 // Every length at which a tag or an OTC begins to have no room, or the block is too long.
@@ -138,7 +97,8 @@ fn forms(random: &mut Random, call: fn(&mut Random) -> Call, tally: &mut Tally) 
 }
 
 // Every size of the buffer up to one that is ample.
-fn every_size(random: &mut Random, call: fn(&mut Random) -> Call, tally: &mut Tally) {
+fn every_size(seed: u64, call: fn(&mut Random) -> Call, tally: &mut Tally) {
+    let random = &mut Random(seed);
     for _ in 0..100 {
         let (call, block) = (call(random), block(random));
         for cap in 0..(block.len() + 20).min(400) {
@@ -155,7 +115,6 @@ fn compare(seed: u64, call: fn(&mut Random) -> Call) -> Tally {
     }
     limits(&mut random, call, &mut tally);
     forms(&mut random, call, &mut tally);
-    every_size(&mut random, call, &mut tally);
     tally
 }
 
@@ -164,14 +123,24 @@ const STATES: [(u8, usize); 4] = [(0, 0), (0, 1), (0, 2), (0, 3)];
 
 #[test]
 fn receipt_agrees() {
+    let mut tally = compare(1, receipt);
+    every_size(4, receipt, &mut tally);
     let others = [(1, 1), (1, 2), (5, 0), (6, 0), (7, 0)];
-    compare(1, receipt).check("receive", &[&STATES[..], &others, &FAULTS].concat());
+    tally.check("receive", &[&STATES[..], &others, &FAULTS].concat());
+}
+
+const SENT: [(u8, usize); 7] = [(0, 3), (2, 1), (2, 2), (2, 3), (5, 0), (6, 0), (7, 0)];
+
+#[test]
+fn sizes_of_what_is_sent_agree() {
+    compare(2, sizing).check("send_size", &[&SENT[..], &FAULTS].concat());
 }
 
 #[test]
-fn sending_agrees() {
-    let others = [(0, 3), (2, 1), (2, 2), (2, 3), (5, 0), (6, 0), (7, 0)];
-    compare(2, sending).check("send", &[&others[..], &FAULTS].concat());
+fn what_is_sent_agrees() {
+    let mut tally = compare(2, writing);
+    every_size(5, writing, &mut tally);
+    tally.check("send_write", &[&SENT[..], &FAULTS].concat());
 }
 
 // A block that was sent and is then received, as in a chain.
@@ -179,7 +148,7 @@ fn sending_agrees() {
 fn a_sent_block_is_received_alike() {
     let (mut random, mut tally) = (Random(3), Tally::default());
     for _ in 0..ROUNDS {
-        let (call, block) = (sending(&mut random), block(&mut random));
+        let (call, block) = (writing(&mut random), block(&mut random));
         let mut sent = vec![0; BLOCK_MAX];
         let told = call.at(&LIBRARY, &block, &mut sent);
         if told.answer != 0 {

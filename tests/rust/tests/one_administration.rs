@@ -48,10 +48,12 @@ fn received(side: &Side, s: Session, room: usize, block: &[u8]) -> (u8, usize, u
     (told.answer, told.thrown_out, told.state, out)
 }
 
-// What sending answers, and what it stores.
+// What sending answers, which is what its size function tells, and what it stores.
 fn sent(side: &Side, s: Session, source: u8, state: u8, block: &[u8]) -> (u8, Vec<u8>) {
     let mut out = vec![0; BLOCK_MAX];
-    let (answer, beside) = (side.send)(s, source, state, block, &mut out);
+    let (answer, beside) = (side.send_write)(s, source, state, block, &mut out);
+    let sized = (side.send_size)(s, source, state, block);
+    assert_eq!(sized, (answer, beside), "{}", side.name);
     out.truncate(if answer == 0 { beside } else { 0 });
     (answer, out)
 }

@@ -1,5 +1,5 @@
 //! The cases that documents 01 and 02 name, run at the functions with the results stored here.
-use bgp_policy::{send, Session, BLOCK_MAX, OWN_ROUTE};
+use bgp_policy::{send_write, Session, BLOCK_MAX, OWN_ROUTE};
 use policy_tests::{block_of, expected_buffer, hex, patterns, shown};
 
 const PROVIDER: u8 = 0;
@@ -95,21 +95,21 @@ fn p3_another_as_in_a_peers_otc_is_a_leak() {
 #[test]
 fn p4_an_own_route_to_a_peer_is_marked() {
     stores(BLOCK_MAX, &hex("40010100400200C023040000FBF4"), |out| {
-        send(session(PEER), OWN_ROUTE, 3, &hex(OWN), out)
+        send_write(session(PEER), OWN_ROUTE, 3, &hex(OWN), out)
     });
 }
 
 #[test]
 fn p5_a_providers_route_is_withheld_from_a_peer() {
     refuses(BLOCK_MAX, 2, 2, |out| {
-        send(session(PEER), PROVIDER, 3, &hex(OWN), out)
+        send_write(session(PEER), PROVIDER, 3, &hex(OWN), out)
     });
 }
 
 #[test]
 fn thirty_communities_and_a_tag_stay_short() {
     stores(BLOCK_MAX, &tagged("C010F8", 30, "C023040000FBF4"), |out| {
-        send(session(RS), OWN_ROUTE, 1, &with_communities(0xC0, 30), out)
+        send_write(session(RS), OWN_ROUTE, 1, &with_communities(0xC0, 30), out)
     });
 }
 
@@ -118,7 +118,7 @@ fn thirty_one_communities_and_a_tag_become_long() {
     stores(
         BLOCK_MAX,
         &tagged("D0100100", 31, "C023040000FBF4"),
-        |out| send(session(RS), OWN_ROUTE, 1, &with_communities(0xC0, 31), out),
+        |out| send_write(session(RS), OWN_ROUTE, 1, &with_communities(0xC0, 31), out),
     );
 }
 
@@ -133,11 +133,11 @@ fn with_new(flags: &str) -> Vec<u8> {
 fn what_is_new_on_a_learned_route_is_partial() {
     for source in 0..=4 {
         stores(BLOCK_MAX, &with_new("E0"), |out| {
-            send(session(RS), source, 1, &hex(OWN), out)
+            send_write(session(RS), source, 1, &hex(OWN), out)
         });
     }
     stores(BLOCK_MAX, &with_new("C0"), |out| {
-        send(session(RS), OWN_ROUTE, 1, &hex(OWN), out)
+        send_write(session(RS), OWN_ROUTE, 1, &hex(OWN), out)
     });
 }
 
@@ -146,10 +146,10 @@ fn what_is_new_on_a_learned_route_is_partial() {
 fn a_tag_after_an_emptied_attribute_is_new() {
     let block = |flags: &str| hex(&format!("{OWN}{flags}10084300000000000007"));
     stores(BLOCK_MAX, &with_new("E0"), |out| {
-        send(session(RS), CUSTOMER, 1, &block("C0"), out)
+        send_write(session(RS), CUSTOMER, 1, &block("C0"), out)
     });
     stores(BLOCK_MAX, &with_new("C0"), |out| {
-        send(session(RS), OWN_ROUTE, 1, &block("E0"), out)
+        send_write(session(RS), OWN_ROUTE, 1, &block("E0"), out)
     });
 }
 
@@ -162,10 +162,10 @@ fn what_was_there_keeps_its_flags_but_for_the_long_form() {
             (PROVIDER, "E023040000FBF4"),
         ] {
             stores(BLOCK_MAX, &tagged(short, 30, otc), |out| {
-                send(session(RS), source, 1, &with_communities(flags, 30), out)
+                send_write(session(RS), source, 1, &with_communities(flags, 30), out)
             });
             stores(BLOCK_MAX, &tagged(long, 31, otc), |out| {
-                send(session(RS), source, 1, &with_communities(flags, 31), out)
+                send_write(session(RS), source, 1, &with_communities(flags, 31), out)
             });
         }
     }
@@ -173,10 +173,10 @@ fn what_was_there_keeps_its_flags_but_for_the_long_form() {
         let block = hex(&format!("{OWN}{otc}"));
         stores(BLOCK_MAX, &block, |out| receive(session(PEER), &block, out));
         stores(BLOCK_MAX, &block, |out| {
-            send(session(PROVIDER), OWN_ROUTE, 3, &block, out)
+            send_write(session(PROVIDER), OWN_ROUTE, 3, &block, out)
         });
         stores(BLOCK_MAX, &block, |out| {
-            send(session(PROVIDER), PEER, 3, &block, out)
+            send_write(session(PROVIDER), PEER, 3, &block, out)
         });
     }
 }
@@ -189,7 +189,7 @@ fn a_block_of_4073_passes() {
         receive(session(PROVIDER), &block, out)
     });
     stores(BLOCK_MAX, &block, |out| {
-        send(session(CUSTOMER), OWN_ROUTE, 3, &block, out)
+        send_write(session(CUSTOMER), OWN_ROUTE, 3, &block, out)
     });
 }
 
@@ -199,7 +199,7 @@ fn a_block_of_4073_that_needs_an_otc_has_no_room() {
     for cap in [BLOCK_MAX, 4080, 5000] {
         refuses(cap, 7, 0, |out| receive(session(PEER), &block, out));
         refuses(cap, 7, 0, |out| {
-            send(session(PEER), OWN_ROUTE, 3, &block, out)
+            send_write(session(PEER), OWN_ROUTE, 3, &block, out)
         });
     }
 }
@@ -213,12 +213,12 @@ fn an_otc_may_fill_the_block() {
         receive(session(PEER), &block, out)
     });
     stores(BLOCK_MAX, &marked("C023040000FBF4"), |out| {
-        send(session(PEER), OWN_ROUTE, 3, &block, out)
+        send_write(session(PEER), OWN_ROUTE, 3, &block, out)
     });
     let block = block_of(4067);
     refuses(5000, 7, 0, |out| receive(session(PEER), &block, out));
     refuses(5000, 7, 0, |out| {
-        send(session(PEER), OWN_ROUTE, 3, &block, out)
+        send_write(session(PEER), OWN_ROUTE, 3, &block, out)
     });
 }
 
@@ -228,7 +228,7 @@ fn a_block_of_4074_is_too_long() {
     for cap in [BLOCK_MAX, 5000] {
         refuses(cap, 6, 0, |out| receive(session(PROVIDER), &block, out));
         refuses(cap, 6, 0, |out| {
-            send(session(CUSTOMER), OWN_ROUTE, 3, &block, out)
+            send_write(session(CUSTOMER), OWN_ROUTE, 3, &block, out)
         });
     }
 }

@@ -1,10 +1,10 @@
-//! Every line of ../vectors/Q-11 but the desk's, through the library, the reference and fast Rust: the answer, the number beside it,
+//! Every line of ../vectors/Q-06 but the desk's, through the library, the reference and fast Rust: the answer, the number beside it,
 //! and the output buffer to its end.
-use bgp_policy::{table, Candidate, Offer, Session, BLOCK_MAX};
-use policy_tests::chain::{end, run, End, Hop};
+use bgp_policy::{table, Candidate, Offer, Session};
+use policy_tests::chain::{end, run, Call, End, Hop};
 use policy_tests::lines::{all_run, bytes, call, every, number, optional};
 use policy_tests::lines::{told, told_numbered, Compared};
-use policy_tests::sides::{as_receipt, Side};
+use policy_tests::sides::{as_receipt, Sending, Side};
 use policy_tests::{counterpart, patterns};
 
 // open: local role, strict, parameters; result: remote role
@@ -64,12 +64,29 @@ fn recv_line(side: &Side, fields: &[&str]) -> Compared {
     })
 }
 
-// send: local AS, remote AS, remote role, mode, byte, source, state, cap, block
-fn send_line(side: &Side, fields: &[&str]) -> Compared {
-    let &[local_as, remote_as, remote_role, mode, byte, source, state, cap, block, "=>", ..] =
-        fields
-    else {
-        panic!("not the fields of send: {fields:?}");
+// sendsize: local AS, remote AS, remote role, mode, byte, source, state, block; result: length
+fn sendsize_line(side: &Side, fields: &[&str]) -> Compared {
+    let &[ref settings @ .., block, "=>", _, _, _] = fields else {
+        panic!("not the fields of sendsize: {fields:?}");
+    };
+    told(&fields[9..], sending(settings).size(side, &bytes(block)))
+}
+
+// sendwrite: local AS, remote AS, remote role, mode, byte, source, state, cap, block; result: block
+fn sendwrite_line(side: &Side, fields: &[&str]) -> Compared {
+    let &[ref settings @ .., cap, block, "=>", _, _, _] = fields else {
+        panic!("not the fields of sendwrite: {fields:?}");
+    };
+    let (sending, block) = (sending(settings), bytes(block));
+    call(cap, &fields[10..], |out| {
+        as_receipt(sending.write(side, &block, out))
+    })
+}
+
+// A sending by its fields up to the state.
+fn sending(fields: &[&str]) -> Sending {
+    let &[local_as, remote_as, remote_role, mode, byte, source, state] = fields else {
+        panic!("not the settings of a sending: {fields:?}");
     };
     let session = Session {
         local_as: number(local_as),
@@ -78,10 +95,11 @@ fn send_line(side: &Side, fields: &[&str]) -> Compared {
         mode: number(mode),
         one_administration: number(byte),
     };
-    let (source, state, block) = (number(source), number(state), bytes(block));
-    call(cap, &fields[10..], |out| {
-        as_receipt((side.send)(session, source, state, &block, out))
-    })
+    Sending {
+        session,
+        source: number(source),
+        state: number(state),
+    }
 }
 
 // choose: mode, client, buffer, `start:length:state:identifier:address,..`; result: index, how many were left
@@ -170,15 +188,17 @@ fn chain_line(side: &Side, fields: &[&str]) -> Compared {
         _ => End::Stopped {
             hop: number(at),
             call: match call {
-                "send" => "send",
-                "receive" => "recv",
+                "send" => Call::Send,
+                "write" => Call::Write,
+                "receive" => Call::Receive,
                 other => panic!("'{other}' is no call"),
             },
             told: (number(answer), optional(beside).unwrap_or(0)),
         },
     };
-    for fill in patterns(BLOCK_MAX) {
-        let got = end(&block, &run(side, &block, &hops, || fill.clone()));
+    for which in 0..2 {
+        let calls = run(side, &block, &hops, |room| patterns(room)[which].clone());
+        let got = end(&block, &calls);
         if got != expected {
             return Err(format!("{got:X?}, expected {expected:X?}"));
         }
@@ -204,7 +224,8 @@ macro_rules! lines {
 lines! {
     functions_open: "functions.tsv", "open", open_line;
     functions_recv: "functions.tsv", "recv", recv_line;
-    functions_send: "functions.tsv", "send", send_line;
+    functions_sendsize: "functions.tsv", "sendsize", sendsize_line;
+    functions_sendwrite: "functions.tsv", "sendwrite", sendwrite_line;
     functions_chain: "functions.tsv", "chain", chain_line;
     functions_state: "functions.tsv", "state", state_line;
     functions_state6: "functions.tsv", "state6", state6_line;
@@ -215,6 +236,7 @@ lines! {
     boundary_state6: "boundary.tsv", "state6", state6_line;
     boundary_open: "boundary.tsv", "open", open_line;
     boundary_recv: "boundary.tsv", "recv", recv_line;
-    boundary_send: "boundary.tsv", "send", send_line;
+    boundary_sendsize: "boundary.tsv", "sendsize", sendsize_line;
+    boundary_sendwrite: "boundary.tsv", "sendwrite", sendwrite_line;
     chains_chain: "chains.tsv", "chain", chain_line;
 }

@@ -1,39 +1,14 @@
 //! The proved library as safe Rust: a crate to copy. `include/bgp_policy.h` says what the arguments and answers mean.
 mod index;
+mod passing;
 mod raw;
 
 pub use index::{index_build, index_build6, index_insert, index_insert6};
 pub use index::{index_look_up, index_look_up6};
+pub use passing::{receive, send_size, send_write, Receipt, Session, OWN_ROUTE};
 
 /// Document 01's size of an attribute block: an output buffer of this length is always enough.
 pub const BLOCK_MAX: usize = 4073;
-
-/// The source of an own route.
-pub const OWN_ROUTE: u8 = 255;
-
-/// A session as one end sees it.
-#[derive(Clone, Copy, Debug)]
-pub struct Session {
-    pub local_as: u32,
-    pub remote_as: u32,
-    pub local_role: u8,
-    pub mode: u8,
-    /// 1 where both ends are under one administration, else 0.
-    pub one_administration: u8,
-}
-
-/// What receipt tells.
-#[derive(Clone, Copy, Debug, PartialEq, Eq)]
-pub struct Receipt {
-    pub answer: u8,
-    /// The number beside the answer, on answer 0 the written length.
-    pub beside: usize,
-    /// How many tags of the block have a value above 2, for the log that RFC 8097 asks for; 0 on answers other than 0 and 1.
-    pub thrown_out: usize,
-    /// The state that the tags left tell, for a caller with no VRP table of its own; 3, unavailable, where the session is not under
-    /// one administration, and on every answer but 0.
-    pub state: usize,
-}
 
 /// A candidate as it is offered to choosing: its block is `size` bytes of one buffer, from `start` on.
 #[derive(Clone, Copy, Debug)]
@@ -80,57 +55,6 @@ pub fn open(local_role: u8, strict: u8, parameters: &[u8]) -> (u8, usize) {
             strict,
             parameters.as_ptr(),
             parameters.len(),
-            &mut beside,
-        )
-    };
-    (answer, beside)
-}
-
-/// Receipt of a block.
-pub fn receive(session: Session, block: &[u8], out: &mut [u8]) -> Receipt {
-    let (mut beside, mut thrown_out, mut state) = (UNSET, UNSET, UNSET);
-    // Safe: the pointers and lengths are those of slices, and `out`, being `&mut`, overlaps nothing.
-    let answer = unsafe {
-        raw::bgp_receive(
-            session.local_as,
-            session.remote_as,
-            session.local_role,
-            session.mode,
-            session.one_administration,
-            block.as_ptr(),
-            block.len(),
-            out.as_mut_ptr(),
-            out.len(),
-            &mut beside,
-            &mut thrown_out,
-            &mut state,
-        )
-    };
-    Receipt {
-        answer,
-        beside,
-        thrown_out,
-        state,
-    }
-}
-
-/// Sending of a block: the answer number and the number beside it (the written length on answer 0).
-pub fn send(session: Session, source: u8, state: u8, block: &[u8], out: &mut [u8]) -> (u8, usize) {
-    let mut beside = UNSET;
-    // Safe: as in `receive`.
-    let answer = unsafe {
-        raw::bgp_send(
-            session.local_as,
-            session.remote_as,
-            session.local_role,
-            session.mode,
-            session.one_administration,
-            source,
-            state,
-            block.as_ptr(),
-            block.len(),
-            out.as_mut_ptr(),
-            out.len(),
             &mut beside,
         )
     };

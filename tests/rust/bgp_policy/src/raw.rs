@@ -24,7 +24,20 @@ extern "C" {
         state: *mut usize,
     ) -> u8;
 
-    pub fn bgp_send(
+    pub fn bgp_send_size(
+        local_as: u32,
+        remote_as: u32,
+        local_role: u8,
+        mode: u8,
+        one_administration: u8,
+        source: u8,
+        state: u8,
+        block: *const u8,
+        block_len: usize,
+        beside: *mut usize,
+    ) -> u8;
+
+    pub fn bgp_send_write(
         local_as: u32,
         remote_as: u32,
         local_role: u8,

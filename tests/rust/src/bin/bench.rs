@@ -1,5 +1,5 @@
-//! The library beside plain Rust: one table of the time that a call of each entry point takes, and of the desk's throughput; and a
-//! second table of the library's scan of VRPs beside its look-up in their index.
+//! The library beside plain Rust: one table of the time that a call of each entry point takes, and of the desk's throughput; a
+//! second table of the library's scan of VRPs beside its look-up in their index; and a third of its two functions of sending.
 //! Before anything of a row is timed, the two results are compared; where they differ, the run ends with status 1.
 
 // In a folder, where cargo takes them for no programs.
@@ -9,6 +9,8 @@ mod desk;
 mod index;
 #[path = "bench/inputs.rs"]
 mod inputs;
+#[path = "bench/pairs.rs"]
+mod pairs;
 #[path = "bench/rows.rs"]
 mod rows;
 
@@ -78,8 +80,8 @@ macro_rules! both {
     };
 }
 
-// The functions on one block, at each size.
-fn blocks(table: &mut Table, random: &mut Random) -> Result<(), String> {
+// The functions on one block, at each size: in `table` the library beside Rust, in `pairs` the library's two functions of sending.
+fn blocks(table: &mut Table, pairs: &mut Table, random: &mut Random) -> Result<(), String> {
     let made = SIZES.map(|size| (format!("{size} bytes"), inputs::sized(random, size)));
     // made once and lent: made at each call, a session costs some nanoseconds more, in Rust above all
     let (peer, rs) = (session(PEER), session(RS));
@@ -90,8 +92,12 @@ fn blocks(table: &mut Table, random: &mut Random) -> Result<(), String> {
     }
     for (size, block) in &made {
         // to an RS-Client, so that a tag and an OTC are added
-        both!(table, size, |out| send(*rs, OWN_ROUTE, 0, block, out))?;
+        both!(table, size, |_out| send_size(*rs, OWN_ROUTE, 0, block))?;
     }
+    for (size, block) in &made {
+        both!(table, size, |out| send_write(*rs, OWN_ROUTE, 0, block, out))?;
+    }
+    pairs::rows(pairs, rs, &made)?;
     for (size, block) in &made {
         // the nearest to the reader alone
         both!(table, size, |_out| received_tag(block))?;
@@ -171,10 +177,11 @@ fn bench(effort: Effort) -> Result<(), String> {
     );
     let mut table = Table::new(effort, ["library", "Rust"]);
     let mut scans = Table::new(effort, ["scan", "look-up"]);
+    let mut pairs = Table::new(effort, ["send_size", "send_write"]);
     for _ in 0..effort.passes {
         // the same inputs in each pass
         let random = &mut seeded();
-        blocks(&mut table, random)?;
+        blocks(&mut table, &mut pairs, random)?;
         sessions_and_tables(&mut table, random)?;
         choosing(&mut table, random)?;
         index::rows(&mut table, &mut scans)?;
@@ -183,6 +190,10 @@ fn bench(effort: Effort) -> Result<(), String> {
     desks(effort)?;
     println!("The library's scan of a table beside its look-up in the index; ratio: the scan's time over the look-up's.");
     scans.print();
+    println!(
+        "The library's send_size beside its send_write; ratio: the first's time over the second's."
+    );
+    pairs.print();
     Ok(())
 }
 

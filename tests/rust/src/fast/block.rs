@@ -60,6 +60,17 @@ pub fn is_erroneous(tag: &[u8]) -> bool {
     tag[7] > INVALID
 }
 
+/// How many of some communities are tags, and how many of those are thrown out.
+#[inline]
+pub fn counted(communities: &[u8]) -> (usize, usize) {
+    let (mut tags, mut thrown_out) = (0, 0);
+    for tag in communities.chunks_exact(8).filter(|c| is_tag(c)) {
+        tags += 1;
+        thrown_out += usize::from(is_erroneous(tag));
+    }
+    (tags, thrown_out)
+}
+
 /// The greatest state that the tags among communities tell, else unavailable; and how many of them are thrown out.
 #[inline]
 pub fn told_by_tags(communities: &[u8]) -> (u8, usize) {

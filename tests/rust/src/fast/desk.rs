@@ -3,7 +3,7 @@ use super::block::Block;
 use super::hex::{decode, encode, MAX_DIGITS};
 use super::opening::open;
 use super::origin::{is_vrp, validate, Bits, Prefix};
-use super::passing::{is_session, receive_read, send};
+use super::passing::{is_session, receive_read, send_write};
 use super::{number, Answer, Numbered, MAX_BLOCK, MAX_VRPS};
 use super::{BAD_SETTING, BAD_VRP, DONE, LEAK, MALFORMED, TOO_LONG, UNREADABLE};
 use bgp_policy::Session;
@@ -175,10 +175,11 @@ impl Memory {
         (answer, 1)
     }
 
+    /// A sending, written at once: there is room for any block.
     fn send(&mut self, frame: &[u8]) -> Answer {
         match (self.session, frame) {
             (Some(session), &[source, state, ref block @ ..]) => {
-                send(session, source, state, block, &mut self.result)
+                send_write(session, source, state, block, &mut self.result)
             }
             _ => (UNREADABLE, 0),
         }

@@ -1,5 +1,5 @@
-//! Document 01, with document 02's, in the best plain Rust that we can write: the same functions as the
-//! proved library's, over the same types, to measure it against. The tests hold both to `reference`.
+//! Document 01, with document 02's, in the best plain Rust that we can write: the same functions as
+//! the proved library's, over the same types, to measure it against. The tests hold both to `reference`.
 mod block;
 mod choice;
 mod desk;
@@ -16,7 +16,7 @@ pub use index::{index_build, index_build6, index_insert, index_insert6};
 pub use index::{index_look_up, index_look_up6};
 pub use opening::open;
 pub use origin::{origin_state, origin_state6, received_tag};
-pub use passing::{receive, send};
+pub use passing::{receive, send_size, send_write};
 
 use bgp_policy::Receipt;
 

@@ -1,6 +1,6 @@
 //! Receipt and sending: the verdict on a block, and the block that is kept or sent.
-use super::block::{told_by_tags, Block};
-use super::write::{store, LEARNED, OWN};
+use super::block::{counted, told_by_tags, Block};
+use super::write::{New, Plan, LEARNED, OWN};
 use super::{drops_invalid, refused, remote_role, Answer};
 use super::{BAD_SETTING, DONE, LEAK, MALFORMED, TOO_LONG, WITHHELD};
 use super::{CUSTOMER, PEER, PROVIDER, RS, RS_CLIENT};
@@ -43,10 +43,19 @@ pub fn receive_read(session: &Session, block: &Block, out: &mut [u8]) -> Receipt
         }
     }
     let marks = matches!(from, PROVIDER | PEER | RS) && block.otc.is_none();
-    let otc = marks.then_some(session.remote_as);
+    let new = New {
+        flags: LEARNED,
+        tag: None,
+        otc: marks.then_some(session.remote_as),
+    };
     let stay = session.one_administration != 0;
-    let (answer, beside, thrown_out) = store(block, stay, LEARNED, None, otc, out);
-    let state = match stay && answer == DONE {
+    let (tags, thrown_out) = counted(communities(block));
+    let lost = if stay { thrown_out } else { tags };
+    let (answer, beside) = Plan::of(block, stay, lost, new).store(out);
+    if answer != DONE {
+        return refused(answer, beside, 0);
+    }
+    let state = match stay {
         true => told_by_tags(communities(block)).0,
         false => UNAVAILABLE,
     };
@@ -67,22 +76,44 @@ fn thrown_out(block: &Block) -> usize {
     told_by_tags(communities(block)).1
 }
 
+/// Whether a block goes out to the other end, and how long it is then.
+pub fn send_size(session: Session, source: u8, state: u8, block: &[u8]) -> Answer {
+    send(&session, source, state, block, |plan| plan.size())
+}
+
 /// What goes out of a block to the other end.
-pub fn send(session: Session, source: u8, state: u8, block: &[u8], out: &mut [u8]) -> Answer {
+pub fn send_write(session: Session, source: u8, state: u8, block: &[u8], out: &mut [u8]) -> Answer {
+    send(&session, source, state, block, |plan| plan.store(out))
+}
+
+/// A block that is to go out: what `tell` makes of the plan for it, unless it is refused.
+fn send(
+    session: &Session,
+    source: u8,
+    state: u8,
+    block: &[u8],
+    tell: impl FnOnce(Plan) -> Answer,
+) -> Answer {
     let known_source = source <= PEER || source == OWN_SOURCE;
-    if !is_session(&session) || !known_source || state > UNAVAILABLE {
+    if !is_session(session) || !known_source || state > UNAVAILABLE {
         return (BAD_SETTING, 0);
     }
     if block.len() > MAX_BLOCK {
         return (TOO_LONG, 0);
     }
     match Block::read(block) {
-        Ok(block) => send_read(&session, source, state, &block, out),
+        Ok(block) => send_read(session, source, state, &block, tell),
         Err(fault) => (MALFORMED, fault),
     }
 }
 
-fn send_read(session: &Session, source: u8, state: u8, block: &Block, out: &mut [u8]) -> Answer {
+fn send_read(
+    session: &Session,
+    source: u8,
+    state: u8,
+    block: &Block,
+    tell: impl FnOnce(Plan) -> Answer,
+) -> Answer {
     let to = remote_role(session.local_role);
     if matches!(to, PROVIDER | PEER | RS) {
         if block.otc.is_some() {
@@ -97,8 +128,11 @@ fn send_read(session: &Session, source: u8, state: u8, block: &Block, out: &mut 
     }
     let tags = (to == RS_CLIENT || session.one_administration != 0) && state != UNAVAILABLE;
     let marks = matches!(to, CUSTOMER | PEER | RS_CLIENT) && block.otc.is_none();
-    let otc = marks.then_some(session.local_as);
-    let flags = if source == OWN_SOURCE { OWN } else { LEARNED };
-    let (answer, length, _) = store(block, false, flags, tags.then_some(state), otc, out);
-    (answer, length)
+    let new = New {
+        flags: if source == OWN_SOURCE { OWN } else { LEARNED },
+        tag: tags.then_some(state),
+        otc: marks.then_some(session.local_as),
+    };
+    let (lost, _) = counted(communities(block));
+    tell(Plan::of(block, false, lost, new))
 }

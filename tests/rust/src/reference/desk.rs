@@ -3,7 +3,7 @@ use super::block::read;
 use super::input::Input;
 use super::opening::opened;
 use super::origin::{origin, state, vrp, vrp_size, Route, Vrp, IPV4, IPV6};
-use super::passing::{handed_on, received, sent};
+use super::passing::{handed_on, received, send_write};
 use super::{check_session, demand, Refusal};
 use super::{BAD_VRP, BLOCK_MAX, DONE, OUT_OF_RANGE, TOO_LONG, UNREADABLE, VRPS_MAX};
 use bgp_policy::Session;
@@ -108,17 +108,21 @@ impl Desk {
         let (route, block) = receipt_frame(width, frame).ok_or(UNREADABLE)?;
         let session = self.session.ok_or(UNREADABLE)?;
         demand(route.length <= width, OUT_OF_RANGE)?;
-        let stored = received(session, block, BLOCK_MAX)?;
+        let stored = received(session, block)?;
         let origin = origin(&read(block)?, session.local_as);
         let state = state(route, origin, &self.vrps);
         Ok([vec![state], stored].concat())
     }
 
-    /// "03 sending (source, state, block)".
+    /// "03 sending (source, state, block)". The call that writes, alone: its buffer holds any result.
     fn send(&self, frame: &[u8]) -> Result<Vec<u8>, Refusal> {
         let (source, state, block) = sending_frame(frame).ok_or(UNREADABLE)?;
         let session = self.session.ok_or(UNREADABLE)?;
-        sent(session, source, state, block, BLOCK_MAX)
+        let mut out = vec![0; BLOCK_MAX];
+        match send_write(session, source, state, block, &mut out) {
+            (DONE, length) => Ok(out[..length].to_vec()),
+            refusal => Err(refusal),
+        }
     }
 
     /// "04 one VRP". "A 04 frame of more than 11 bytes is 6"; "VRPs stay; one more than 4,096 is 6." Q-1: "frame 14 an IPv6 VRP,

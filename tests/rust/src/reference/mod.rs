@@ -1,6 +1,6 @@
-//! Document 01 in plain Rust, with document 02's, written from their text alone and slow on purpose:
-//! whole lists that are read, altered and written anew. The tests compare the proved library with it. A file follows a section of
-//! document 01 or a request; sentences in quotes are its, after "Q-1:" or another request's number those of that request.
+//! Document 01 in plain Rust, with document 02's, written from their text alone and slow on
+//! purpose: whole lists that are read, altered and written anew. The tests compare the proved library with it. A file follows a section
+//! of document 01 or a request; sentences in quotes are its, after "Q-1:" or another request's number those of that request.
 mod block;
 mod choice;
 mod desk;
@@ -16,7 +16,7 @@ pub use desk::desk;
 pub use index::{told, Index};
 pub use opening::open;
 pub use origin::{origin_state, origin_state6, received_tag};
-pub use passing::{receive, send};
+pub use passing::{receive, send_size, send_write};
 
 use bgp_policy::Session;
 

@@ -17,7 +17,7 @@ const PARTIAL: u8 = 0x20;
 /// What receipt answers and the number beside it; on answer 0 the block is in `out`, and its length beside. Q-8's number is 0, and
 /// Q-11's state 3, where there is none.
 pub fn receive(session: Session, block: &[u8], out: &mut [u8]) -> Receipt {
-    let (answer, beside) = store(received(session, block, out.len()), out);
+    let (answer, beside) = store(received(session, block), out);
     Receipt {
         answer,
         beside,
@@ -46,13 +46,27 @@ pub fn handed_on(answer: u8, block: &[u8]) -> Option<usize> {
     }
 }
 
-/// What sending answers, and the number beside it; on answer 0 the block is in `out`, and its length beside.
-pub fn send(session: Session, source: u8, state: u8, block: &[u8], out: &mut [u8]) -> (u8, usize) {
-    store(sent(session, source, state, block, out.len()), out)
+/// of sending "the first gives the verdict and the exact length of the result"; a refusal has no length.
+pub fn send_size(session: Session, source: u8, state: u8, block: &[u8]) -> (u8, usize) {
+    match sent(session, source, state, block) {
+        Ok(result) => (DONE, result.len()),
+        Err(refusal) => refusal,
+    }
 }
 
-/// The block that receipt stores in a buffer of `room` bytes.
-pub fn received(session: Session, block: &[u8], room: usize) -> Result<Vec<u8>, Refusal> {
+/// "the second writes". On answer 0 the block is in `out`, and its length beside.
+pub fn send_write(
+    session: Session,
+    source: u8,
+    state: u8,
+    block: &[u8],
+    out: &mut [u8],
+) -> (u8, usize) {
+    store(sent(session, source, state, block), out)
+}
+
+/// The result of receipt.
+pub fn received(session: Session, block: &[u8]) -> Result<Vec<u8>, Refusal> {
     check_session(session)?;
     demand(block.len() <= BLOCK_MAX, TOO_LONG)?;
     let mut attributes = read(block)?;
@@ -74,17 +88,11 @@ pub fn received(session: Session, block: &[u8], room: usize) -> Result<Vec<u8>, 
     if otc.is_none() && [PROVIDER, PEER, RS].contains(&from) {
         add_otc(&mut attributes, PARTIAL, session.remote_as);
     }
-    fitting(encode(&attributes), room)
+    within_limit(encode(&attributes))
 }
 
-/// The block that sending stores in a buffer of `room` bytes.
-pub fn sent(
-    session: Session,
-    source: u8,
-    state: u8,
-    block: &[u8],
-    room: usize,
-) -> Result<Vec<u8>, Refusal> {
+/// The result of sending, the same for both of its calls: Q-6: "the second repeats every check".
+fn sent(session: Session, source: u8, state: u8, block: &[u8]) -> Result<Vec<u8>, Refusal> {
     check_session(session)?;
     demand(source <= 4 || source == OWN_ROUTE, OUT_OF_RANGE)?;
     demand(state <= 3, OUT_OF_RANGE)?;
@@ -111,7 +119,7 @@ pub fn sent(
     if otc.is_none() && [CUSTOMER, PEER, RS_CLIENT].contains(&to) {
         add_otc(&mut attributes, partial, session.local_as);
     }
-    fitting(encode(&attributes), room)
+    within_limit(encode(&attributes))
 }
 
 /// "drop every 43 00 community", or those of them that Q-11 says; "A communities attribute emptied by dropping goes away whole."
@@ -160,19 +168,21 @@ fn add_attribute(attributes: &mut Vec<Attribute>, partial: u8, kind: u8, value: 
     attributes.insert(above.unwrap_or(attributes.len()), new);
 }
 
-/// "Answer 7 is given exactly when the result is longer than the output buffer or than 4,073."
-fn fitting(result: Vec<u8>, room: usize) -> Result<Vec<u8>, Refusal> {
-    demand(result.len() <= room && result.len() <= BLOCK_MAX, NO_ROOM)?;
+/// "Answer 7 is given exactly when the result is longer than the output buffer or than 4,073": the latter, whatever the buffer. Q-6:
+/// the first call of sending, which has none, "answers 7 only for a result above 4,073".
+fn within_limit(result: Vec<u8>) -> Result<Vec<u8>, Refusal> {
+    demand(result.len() <= BLOCK_MAX, NO_ROOM)?;
     Ok(result)
 }
 
-/// "Only answer 0 stores anything: bytes from the start of the output buffer".
+/// "Only answer 0 stores anything: bytes from the start of the output buffer"; 7 for a result that is longer than it.
 fn store(result: Result<Vec<u8>, Refusal>, out: &mut [u8]) -> (u8, usize) {
     match result {
-        Ok(block) => {
+        Ok(block) if block.len() <= out.len() => {
             out[..block.len()].copy_from_slice(&block);
             (DONE, block.len())
         }
+        Ok(_) => NO_ROOM,
         Err(refusal) => refusal,
     }
 }

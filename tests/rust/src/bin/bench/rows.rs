@@ -68,12 +68,12 @@ fn filling<T>(turn: Duration, out: &mut [u8], run: &impl Fn(&mut [u8]) -> T) -> 
     calls
 }
 
-// Both sides called once: answer 0, and the same numbers and buffer, to its end.
-fn same<T: Answer>(
+// What both sides tell when called once: answer 0, and the same numbers. Gives the buffers that they leave.
+fn same_told<T: Answer>(
     sides: [&str; 2],
     one: &impl Fn(&mut [u8]) -> T,
     two: &impl Fn(&mut [u8]) -> T,
-) -> Result<(), String> {
+) -> Result<[Vec<u8>; 2], String> {
     let [one_name, two_name] = sides;
     let [mut first, _] = patterns(BLOCK_MAX);
     let mut second = first.clone();
@@ -83,16 +83,29 @@ fn same<T: Answer>(
             "{one_name} answers {answer:?}, {two_name} {other:?}"
         ));
     }
-    if let Some(at) = (0..BLOCK_MAX).find(|&at| first[at] != second[at]) {
-        let (first, second) = (shown(&first[at..]), shown(&second[at..]));
-        return Err(format!(
-            "from byte {at} {one_name} stores {first}, {two_name} {second}"
-        ));
-    }
     if answer.number() != 0 {
         return Err(format!("answered {answer:?}, where 0 is to be timed"));
     }
-    Ok(())
+    Ok([first, second])
+}
+
+// The same, and both sides leave the same buffer, to its end.
+fn same<T: Answer>(
+    sides: [&str; 2],
+    one: &impl Fn(&mut [u8]) -> T,
+    two: &impl Fn(&mut [u8]) -> T,
+) -> Result<(), String> {
+    let [one_name, two_name] = sides;
+    let [first, second] = same_told(sides, one, two)?;
+    match (0..BLOCK_MAX).find(|&at| first[at] != second[at]) {
+        None => Ok(()),
+        Some(at) => {
+            let (first, second) = (shown(&first[at..]), shown(&second[at..]));
+            Err(format!(
+                "from byte {at} {one_name} stores {first}, {two_name} {second}"
+            ))
+        }
+    }
 }
 
 impl Table {
@@ -137,6 +150,30 @@ impl Table {
         two: impl Fn(&mut [u8]) -> T,
     ) -> Result<(), String> {
         same(self.sides, &one, &two).map_err(|how| format!("{name}, {size}: {how}"))?;
+        self.time(name, size, one, two);
+        Ok(())
+    }
+
+    /// The same of sides of which one stores nothing: compared in what they tell.
+    pub fn measure_told<T: Answer>(
+        &mut self,
+        name: &str,
+        size: &str,
+        one: impl Fn(&mut [u8]) -> T,
+        two: impl Fn(&mut [u8]) -> T,
+    ) -> Result<(), String> {
+        same_told(self.sides, &one, &two).map_err(|how| format!("{name}, {size}: {how}"))?;
+        self.time(name, size, one, two);
+        Ok(())
+    }
+
+    fn time<T>(
+        &mut self,
+        name: &str,
+        size: &str,
+        one: impl Fn(&mut [u8]) -> T,
+        two: impl Fn(&mut [u8]) -> T,
+    ) {
         let Effort { rounds, turn, .. } = self.effort;
         let best = self.best(name, size);
         let mut out = vec![0; BLOCK_MAX];
@@ -151,6 +188,5 @@ impl Table {
                 best[side] = each.min(best[side]);
             }
         }
-        Ok(())
     }
 }
