@@ -1,4 +1,6 @@
 // Answers as numbers, for callers in C and Rust: the answer number as the result, and through `beside` the number beside it.
+#![tactic(auto)]
+
 ghost use Rattle.std.specs.Prelude.{◌≡◌};
 ghost use Rattle.std.proofs.Math.Option.{get_or};
 ghost use Rattle.rules.specs.Answers.{refused, number, answer_number, beside_number, told_opened, told_received, thrown_received, state_received, told_advertised, told_stated, told_tag_read, thrown_read};

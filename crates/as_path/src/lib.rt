@@ -1,4 +1,6 @@
 // AS_PATH: segments of a type, a count and that many four-byte ASNs (RFC 4271 section 4.3; 01, "Reading an attribute block").
+#![tactic(auto)]
+
 ghost use Rattle.std.specs.Prelude.{◌≡◌, [], ◌∷◌, ◌≤◌, length, leb};
 ghost use Rattle.rules.specs.Rows.{fit};
 ghost use Rattle.rules.specs.Bytes.{every};

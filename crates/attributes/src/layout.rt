@@ -2,7 +2,7 @@
 
 // Where attributes begin, counted in bytes from the start of the block; the block's length where there is none. The last two
 // are where a new tag attribute and a new OTC would go.
-#[derive(Drop)]
+#[derive(Clone, Copy)]
 pub struct Layout {
     pub origin: usize,
     pub as_path: usize,
@@ -13,7 +13,7 @@ pub struct Layout {
 }
 
 // What reading a block answers: where its attributes are, or its fault, 1 to 6.
-#[derive(Drop)]
+#[derive(Clone, Copy)]
 pub enum Reading {
     Clean(Layout),
     Fault(u8),

@@ -1,5 +1,7 @@
 // The build of an index over a table of VRPs: record after record, in the table's order (02, Q-7). One code for both families, with the
 // width of their prefixes handed in.
+#![tactic(auto)]
+
 ghost use Rattle.std.specs.Prelude.{◌≡◌, ◌≤◌, length, replicate};
 ghost use Rattle.rules.specs.Settings.{vrps_max};
 ghost use Rattle.rules.specs.Origin.{ipv4, ipv6, vrps};

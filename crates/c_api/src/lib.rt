@@ -1,4 +1,6 @@
 // The library for callers in C and Rust: numbers, slices and numbers handed back. include/bgp_policy.h declares it.
+#![tactic(auto)]
+
 pub mod vrp_index;
 
 ghost use Rattle.std.specs.Prelude.{◌≡◌, ◌+◌, ◌*◌, ◌^◌};

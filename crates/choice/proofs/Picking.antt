@@ -1,6 +1,6 @@
 -- The best of some candidates as they are met in their sequence: that of the lowest class, by the order, with how many there are.
 use Prim.Native.Nat.{ℕ, suc, ◌+◌, ◌≤◌, ◌<◌, min}
-use mathlib.Core.Path.{◌≡◌, refl, sym, ap, ◌∙◌}
+use mathlib.Core.Path.{◌≡◌, refl, sym, ap, ◌∙◌, subst}
 use mathlib.Core.Bool.{Bool, true, false, cond}
 use mathlib.Core.List.{List, [], ◌∷◌, map, foldl}
 use native.Mathlib.Nat.{add-zero, min-eq_left, min-eq_right, min-le_left}
@@ -96,27 +96,36 @@ module _ (k : Numbered → ℕ) where
           let s : 1 + length (of_class (k x) l) ≡ suc (length (of_class (k x) l)) = omega arith in
           rw (q, eq-eqb (k x) (k x) refl, s) (unfold best_of in refl)
 
+  -- The same for one candidate more, where j is the lower of m and its class.
+  abbrev At_least : (n m : ℕ) (b x : Numbered) (l : List Numbered) (j : ℕ) → Type 0
+  At_least n m b x l j = met_all (meets (lead n m b) (k x) x.index (keys_of x.candidate)) l
+      ≡ cond (ltb (low j l) m) (best_of (low j l) (of_class (low j l) (x ∷ l))) (lead (n + length (of_class m (x ∷ l))) m (foldl meet b (of_class m (x ∷ l))))
+
   leads : (l : List Numbered) → Leads l
   unfolding met_all low of_class keep
   leads [] n m b = rw (le-ltb m m (omega arith), add-zero n) refl
   leads (x ∷ l) n m b = go (ltb m (k x)) refl (ltb (k x) m) refl (leads l)
     where
       go : (higher : Bool) → ltb m (k x) ≡ higher → (lower : Bool) → ltb (k x) m ≡ lower → Leads l
-          → met_all (meets (lead n m b) (k x) x.index (keys_of x.candidate)) l
-          ≡ cond (ltb (low (min m (k x)) l) m) (best_of (low (min m (k x)) l) (of_class (low (min m (k x)) l) (x ∷ l))) (lead (n + length (of_class m (x ∷ l))) m (foldl meet b (of_class m (x ∷ l))))
+          → At_least n m b x l (min m (k x))
       go true e lower f ih =
           let h = ltb-true m (k x) e in
-          rw (min-eq_left {n = m} {m = k x} (omega (arith, h)), ne_eqb (k x) m (λ z. omega (arith, z, h)), ne_eqb (k x) (low m l) (λ z. omega (arith, z, h, low_below l m)), lead_higher n m b x (k x) h)
-          (ih n m b)
+          let w : min m (k x) ≡ m = min-eq_left {n = m} {m = k x} (omega (arith, h)) in
+          subst (λ (j : ℕ). At_least n m b x l j) (sym w)
+          (rw (ne_eqb (k x) m (λ z. omega (arith, z, h)), ne_eqb (k x) (low m l) (λ z. omega (arith, z, h, low_below l m)), lead_higher n m b x (k x) h)
+          (ih n m b))
       go false e true f ih =
           let h = ltb-true (k x) m f in
-          rw (min-eq_right {n = k x} {m = m} (omega (arith, h)), lt-ltb (low (k x) l) m (omega (arith, h, low_below l (k x))), lead_lower n m b x (k x) h)
-          (lead-first l ih x)
+          let w : min m (k x) ≡ k x = min-eq_right {n = k x} {m = m} (omega (arith, h)) in
+          subst (λ (j : ℕ). At_least n m b x l j) (sym w)
+          (rw (lt-ltb (low (k x) l) m (omega (arith, h, low_below l (k x))), lead_lower n m b x (k x) h)
+          (lead-first l ih x))
       go false e false f ih =
           let q : k x ≡ m = omega (arith, ltb-false m (k x) e, ltb-false (k x) m f) in
           let s : n + suc (length (of_class m l)) ≡ n + 1 + length (of_class m l) = omega arith in
-          rw (q, min-eq_left {n = m} {m = m} (omega arith), eq-eqb m m refl, lead-same n m b x, ih (n + 1) m (meet b x), s)
-          (pick (ltb (low m l) m) refl)
+          let w : min m (k x) ≡ m = min-eq_left {n = m} {m = k x} (omega (arith, q)) in
+          subst (λ (j : ℕ). At_least n m b x l j) (sym w) (rw (q, eq-eqb m m refl, lead-same n m b x, ih (n + 1) m (meet b x), s)
+          (pick (ltb (low m l) m) refl))
         where
           pick : (t : Bool) → ltb (low m l) m ≡ t
               → cond t (best_of (low m l) (of_class (low m l) l)) (lead (n + 1 + length (of_class m l)) m (foldl meet (meet b x) (of_class m l)))

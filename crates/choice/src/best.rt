@@ -11,7 +11,7 @@ use settings::modes::{DROP_INVALID, PRIORITISE};
 use settings::states::{INVALID, NOT_FOUND, UNAVAILABLE, VALID};
 
 // The best route so far: how many are left of its class, it among them, its class, its index and its keys.
-#[derive(Drop)]
+#[derive(Clone, Copy)]
 pub struct BestRoute {
     pub left: usize,
     pub rank: usize,
@@ -20,7 +20,7 @@ pub struct BestRoute {
 }
 
 // No route yet, or the best so far.
-#[derive(Drop)]
+#[derive(Clone, Copy)]
 pub enum Best {
     Nothing,
     Route(BestRoute),

@@ -8,7 +8,7 @@ use attributes::layout::Layout;
 use attributes::value;
 
 // What a candidate has beside its block: its state, and the sender's identifier and address.
-#[derive(Drop)]
+#[derive(Clone, Copy)]
 pub struct Sender {
     pub state: u8,
     pub identifier: u32,
@@ -16,7 +16,7 @@ pub struct Sender {
 }
 
 // The keys in their order, each as wide as an address: such a struct comes back without being packed and taken apart again.
-#[derive(Drop)]
+#[derive(Clone, Copy)]
 pub struct Keys {
     pub path: usize,
     pub origin: usize,

@@ -2,6 +2,8 @@
 //
 // Candidates come as a table of 17 bytes each, numbers high byte first: where the block begins in the buffer 4, how many bytes it
 // has 4, state 1, the sender's identifier 4 and address 4.
+#![tactic(auto)]
+
 pub mod best;
 pub mod keys;
 pub mod offers;

@@ -1,6 +1,8 @@
 // The desk program: reads standard input to its end, hands it to the byte machine of `desk_lines`, and writes what that says.
 // Nothing is known here of what the bytes mean. That a piece is handed over whole is proved; that those read are handed over, and
 // what is said of them is written, is tested.
+#![tactic(auto)]
+
 ghost use Rattle.std.specs.Prelude.{◌≡◌, ◌+◌, ◌<◌, ◌^◌, length};
 ghost use Rattle.desk_lines.specs.Sizes.{answer_max};
 ghost use Rattle.desk_lines.specs.Machine.{emptied, Ready, Lent, HandedOver};
@@ -17,7 +19,7 @@ use libc::{STDERR_FILENO, STDIN_FILENO, STDOUT_FILENO};
 const PIECE_MAX: usize = 65536;
 
 // What handing over a piece gives: whether all that it says was written, and the state after it, with nothing left to write.
-#[derive(Drop)]
+#[derive(Clone, Copy)]
 struct Handed {
     written: bool,
     state: State,

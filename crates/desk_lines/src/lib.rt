@@ -1,6 +1,8 @@
 // The desk's byte machine: takes input in pieces of any size, answers each line once it has ended, and carries a line that has
 // not over to the next piece (01, "The desk program"). All that it needs is lent: `line` for the line that has begun, `raw` for a
 // frame, `made` for a result, `tables` for the VRPs of both families, and `out`, whose caller writes it out when it is full.
+#![tactic(auto)]
+
 pub mod lines;
 pub mod sizes;
 pub mod state;

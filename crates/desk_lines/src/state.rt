@@ -3,7 +3,7 @@ use desk_memory::kept::Kept;
 
 // How many lines have ended, how many bytes are held of the one that has begun, how many bytes of `out` are written, and what the
 // desk keeps.
-#[derive(Drop)]
+#[derive(Clone, Copy)]
 pub struct State {
     pub number: u64,
     pub held: usize,
@@ -12,7 +12,7 @@ pub struct State {
 }
 
 // What feeding gives: how many bytes of the piece were taken, and the state after them.
-#[derive(Drop)]
+#[derive(Clone, Copy)]
 pub struct Progress {
     pub taken: usize,
     pub state: State,

@@ -1,6 +1,8 @@
 // What the desk keeps: frames answered from it by their first byte, and what it is after them (01, "The desk program"; 02, Q-1, Q-8). All of
 // it is internal: the desk's byte machine calls it. The two tables share one memory: that of IPv4 first, and from `TABLE_MAX` on the four
 // parts of that of IPv6.
+#![tactic(auto)]
+
 pub mod kept;
 pub mod sizes;
 

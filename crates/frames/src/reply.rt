@@ -5,14 +5,14 @@ ghost use Rattle.frames.specs.Replying.{plain, dashed, numbered};
 use rules::Refusal;
 
 // How many bytes the result has, at the start of the memory lent for it, or a refusal.
-#[derive(Drop)]
+#[derive(Clone, Copy)]
 pub enum Reply {
     Bytes(usize),
     Refused(Refusal),
 }
 
 // The fourth field of the line that goes out (02, Q-8): how many tags are thrown out, a dash where there is no such number, or none.
-#[derive(Drop)]
+#[derive(Clone, Copy)]
 pub enum Field {
     Number(usize),
     Dash,
@@ -20,7 +20,7 @@ pub enum Field {
 }
 
 // A reply, and the fourth field beside it.
-#[derive(Drop)]
+#[derive(Clone, Copy)]
 pub struct Outcome {
     pub reply: Reply,
     pub field: Field,

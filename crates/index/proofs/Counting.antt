@@ -8,7 +8,7 @@ use native.Mathlib.Omega.{arith}
 use borrow.Author.Tests.{lt-leb}
 use lib.Dec.{eqb}
 use lib.ListN.{length}
-use lib.Pow.{shr_shr}
+use lib.Pow.{shr-shr}
 use Rattle.rules.specs.Bytes.{exists}
 use Rattle.rules.specs.Origin.{Vrp, vrps}
 use Rattle.rules.specs.Index.{counted, is_node, new_nodes, nodes_after, nodes_in}
@@ -23,7 +23,7 @@ unfolding grown
 grown_last zero x ks = ap (added ks) (div-one x)
 grown_last (suc m) x ks =
     let e : suc m ≡ 1 + m = omega arith in
-    grown_last m x (added ks (x / 2 ^ suc m)) ∙ rw (shr_shr x 1 m, e) refl
+    grown_last m x (added ks (x / 2 ^ suc m)) ∙ rw (shr-shr x 1 m, e) refl
 
 added-length : (ks : List ℕ) (x : ℕ) → length (added ks x) ≡ cond (not (some (spot ks x))) 1 0 + length ks
 unfolding added

@@ -6,7 +6,7 @@ use Prim.Native.Nat.{ℕ, ◌+◌, ◌*◌, ◌/◌, ◌≤◌, ◌<◌}
 use native.Mathlib.Nat.{eq-zero-or-pos}
 use native.Mathlib.Omega.{arith}
 use lib.ListN.{length, get_or, set, drop, length-set}
-use lib.Seq.{get_or-set_same, get_or_set_other, drop-set-lt}
+use lib.Seq.{get_or-set_same, get_or-set_other, drop-set-lt}
 use Rattle.vrp_tree.specs.Tree.{spot}
 use Rattle.vrp_tree.specs.Memory.{Tree}
 use Rattle.index.specs.Steps.{Grown}
@@ -115,28 +115,28 @@ module _ (t : List ℕ) (k : ℕ) (fits : k * 3 + 3 ≤ length t) where
   zeros-at : (d : ℕ) → d < 3 → get_or (zeros t k) (k * 3 + d) 0 ≡ 0
   zeros-at d l = ⊎_elim
       (λ (e : d ≡ 2). rw e (get_or-set_same (set (set t (k * 3) 0) (k * 3 + 1) 0) (k * 3 + 2) 0 0 (simp length-set (omega arith))))
-      (λ (n₂ : d ≡ 2 → ⊥). get_or_set_other (set (set t (k * 3) 0) (k * 3 + 1) 0) (k * 3 + 2) (k * 3 + d) 0 0 (λ (q : k * 3 + d ≡ k * 3 + 2). n₂ (omega arith))
+      (λ (n₂ : d ≡ 2 → ⊥). get_or-set_other (set (set t (k * 3) 0) (k * 3 + 1) 0) (k * 3 + 2) (k * 3 + d) 0 0 (λ (q : k * 3 + d ≡ k * 3 + 2). n₂ (omega arith))
       ∙ ⊎_elim
       (λ (e : d ≡ 1). rw e (get_or-set_same (set t (k * 3) 0) (k * 3 + 1) 0 0 (simp length-set (omega arith))))
       (λ (n₁ : d ≡ 1 → ⊥).
       let e : k * 3 + d ≡ k * 3 = omega arith in
-      get_or_set_other (set t (k * 3) 0) (k * 3 + 1) (k * 3 + d) 0 0 (λ (q : k * 3 + d ≡ k * 3 + 1). n₁ (omega arith))
+      get_or-set_other (set t (k * 3) 0) (k * 3 + 1) (k * 3 + d) 0 0 (λ (q : k * 3 + d ≡ k * 3 + 1). n₁ (omega arith))
       ∙ rw e (get_or-set_same t (k * 3) 0 0 (omega arith)))
       (same d 1))
       (same d 2)
 
   zeros-off : (j : ℕ) → (j / 3 ≡ k → ⊥) → get_or (zeros t k) j 0 ≡ get_or t j 0
   zeros-off j l =
-      get_or_set_other (set (set t (k * 3) 0) (k * 3 + 1) 0) (k * 3 + 2) j 0 0 (λ (e : j ≡ k * 3 + 2). l (omega arith))
-      ∙ get_or_set_other (set t (k * 3) 0) (k * 3 + 1) j 0 0 (λ (e : j ≡ k * 3 + 1). l (omega arith))
-      ∙ get_or_set_other t (k * 3) j 0 0 (λ (e : j ≡ k * 3). l (omega arith))
+      get_or-set_other (set (set t (k * 3) 0) (k * 3 + 1) 0) (k * 3 + 2) j 0 0 (λ (e : j ≡ k * 3 + 2). l (omega arith))
+      ∙ get_or-set_other (set t (k * 3) 0) (k * 3 + 1) j 0 0 (λ (e : j ≡ k * 3 + 1). l (omega arith))
+      ∙ get_or-set_other t (k * 3) j 0 0 (λ (e : j ≡ k * 3). l (omega arith))
 
   pub grown_sets : (i b v : ℕ) → i < k → b < 2 → v ≡ k + 1 → Grown t k i b (set (zeros t k) (i * 3 + b) v)
   grown_sets i b v hi hb hv = record {
     size = simp length-set;
-    fresh = λ d l. get_or_set_other (zeros t k) (i * 3 + b) (k * 3 + d) v 0 (λ (e : k * 3 + d ≡ i * 3 + b). omega arith) ∙ zeros-at d l;
+    fresh = λ d l. get_or-set_other (zeros t k) (i * 3 + b) (k * 3 + d) v 0 (λ (e : k * 3 + d ≡ i * 3 + b). omega arith) ∙ zeros-at d l;
     here = get_or-set_same (zeros t k) (i * 3 + b) v 0 (simp length-set (omega arith)) ∙ hv;
-    rest = λ j l ne. get_or_set_other (zeros t k) (i * 3 + b) j v 0 ne ∙ zeros-off j l;
+    rest = λ j l ne. get_or-set_other (zeros t k) (i * 3 + b) j v 0 ne ∙ zeros-off j l;
     after =
         drop-set-lt ((k + 1) * 3) (zeros t k) (i * 3 + b) v (omega arith)
         ∙ drop-set-lt ((k + 1) * 3) (set (set t (k * 3) 0) (k * 3 + 1) 0) (k * 3 + 2) 0 (omega arith)

@@ -5,7 +5,7 @@ use Prim.Native.Nat.{ℕ, ◌+◌, ◌-◌, ◌*◌, ◌/◌, ◌^◌, ◌≤◌
 use native.Mathlib.Omega.{arith}
 use lib.ListN.{length, get_or, set, take, drop, length-set, length-map}
 use lib.Pow.{pow_pos}
-use lib.Seq.{get_or-set_same, get_or_set_other, get_or-drop}
+use lib.Seq.{get_or-set_same, get_or-set_other, get_or-drop}
 use Rattle.rules.specs.declared.Words.{Words}
 use Rattle.rules.specs.Bytes.{big_endian, part}
 use Rattle.rules.specs.Settings.{vrps_max}
@@ -70,31 +70,31 @@ module _ (t : List ℕ) (cap node most asn name : ℕ) (pos : 0 < node) (le : no
   stored_other : (j : ℕ) → (j / 3 ≡ cap → ⊥) → (j ≡ (node - 1) * 3 + 2 → ⊥) → get_or (stored_at t cap node most asn name) j 0 ≡ get_or t j 0
   unfolding one two three
   stored_other j h ne =
-      get_or_set_other three ((node - 1) * 3 + 2) j name 0 ne
-      ∙ get_or_set_other two (cap * 3 + 2) j asn 0 (λ (e : j ≡ cap * 3 + 2). h (omega arith))
-      ∙ get_or_set_other one (cap * 3 + 1) j most 0 (λ (e : j ≡ cap * 3 + 1). h (omega arith))
-      ∙ get_or_set_other t (cap * 3) j (node_at t node 2) 0 (λ (e : j ≡ cap * 3). h (omega arith))
+      get_or-set_other three ((node - 1) * 3 + 2) j name 0 ne
+      ∙ get_or-set_other two (cap * 3 + 2) j asn 0 (λ (e : j ≡ cap * 3 + 2). h (omega arith))
+      ∙ get_or-set_other one (cap * 3 + 1) j most 0 (λ (e : j ≡ cap * 3 + 1). h (omega arith))
+      ∙ get_or-set_other t (cap * 3) j (node_at t node 2) 0 (λ (e : j ≡ cap * 3). h (omega arith))
 
   stored-before : get_or (stored_at t cap node most asn name) (cap * 3 + 0) 0 ≡ node_at t node 2
   unfolding one two three
   stored-before =
       let z : cap * 3 + 0 ≡ cap * 3 = omega arith in
-      get_or_set_other three ((node - 1) * 3 + 2) (cap * 3 + 0) name 0 (λ (e : cap * 3 + 0 ≡ (node - 1) * 3 + 2). omega arith)
-      ∙ get_or_set_other two (cap * 3 + 2) (cap * 3 + 0) asn 0 (λ (e : cap * 3 + 0 ≡ cap * 3 + 2). omega arith)
-      ∙ get_or_set_other one (cap * 3 + 1) (cap * 3 + 0) most 0 (λ (e : cap * 3 + 0 ≡ cap * 3 + 1). omega arith)
+      get_or-set_other three ((node - 1) * 3 + 2) (cap * 3 + 0) name 0 (λ (e : cap * 3 + 0 ≡ (node - 1) * 3 + 2). omega arith)
+      ∙ get_or-set_other two (cap * 3 + 2) (cap * 3 + 0) asn 0 (λ (e : cap * 3 + 0 ≡ cap * 3 + 2). omega arith)
+      ∙ get_or-set_other one (cap * 3 + 1) (cap * 3 + 0) most 0 (λ (e : cap * 3 + 0 ≡ cap * 3 + 1). omega arith)
       ∙ rw z (get_or-set_same t (cap * 3) (node_at t node 2) 0 (omega arith))
 
   stored-most : get_or (stored_at t cap node most asn name) (cap * 3 + 1) 0 ≡ most
   unfolding one two three
   stored-most =
-      get_or_set_other three ((node - 1) * 3 + 2) (cap * 3 + 1) name 0 (λ (e : cap * 3 + 1 ≡ (node - 1) * 3 + 2). omega arith)
-      ∙ get_or_set_other two (cap * 3 + 2) (cap * 3 + 1) asn 0 (λ (e : cap * 3 + 1 ≡ cap * 3 + 2). omega arith)
+      get_or-set_other three ((node - 1) * 3 + 2) (cap * 3 + 1) name 0 (λ (e : cap * 3 + 1 ≡ (node - 1) * 3 + 2). omega arith)
+      ∙ get_or-set_other two (cap * 3 + 2) (cap * 3 + 1) asn 0 (λ (e : cap * 3 + 1 ≡ cap * 3 + 2). omega arith)
       ∙ get_or-set_same one (cap * 3 + 1) most 0 (simp length-set (omega arith))
 
   stored-asn : get_or (stored_at t cap node most asn name) (cap * 3 + 2) 0 ≡ asn
   unfolding one two three
   stored-asn =
-      get_or_set_other three ((node - 1) * 3 + 2) (cap * 3 + 2) name 0 (λ (e : cap * 3 + 2 ≡ (node - 1) * 3 + 2). omega arith)
+      get_or-set_other three ((node - 1) * 3 + 2) (cap * 3 + 2) name 0 (λ (e : cap * 3 + 2 ≡ (node - 1) * 3 + 2). omega arith)
       ∙ get_or-set_same two (cap * 3 + 2) asn 0 (simp length-set (omega arith))
 
 -- ## The records before it

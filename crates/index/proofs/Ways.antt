@@ -6,7 +6,7 @@ use Prim.Native.Nat.{ℕ, zero, suc, ◌+◌, ◌-◌, ◌*◌, ◌/◌, ◌%◌
 use native.Mathlib.Nat.{div-one, eq-or-lt_of_le}
 use native.Mathlib.Omega.{arith}
 use lib.ListN.{length, drop}
-use lib.Pow.{shr_shr}
+use lib.Pow.{shr-shr}
 use lib.Seq.{drop-drop}
 use Rattle.rules.specs.declared.Words.{Words}
 use Rattle.rules.specs.Origin.{spelled, bit_at}
@@ -24,7 +24,7 @@ unfolding bit_at leading_bits
 next_bit p len left h k m =
     let e : 128 - suc (len - left) ≡ 128 - len + (left - 1) = omega arith in
     ap (λ (n : ℕ). spelled p / 2 ^ n % 2) e
-    ∙ ap (λ (n : ℕ). n % 2) (sym (shr_shr (spelled p) (128 - len) (left - 1)))
+    ∙ ap (λ (n : ℕ). n % 2) (sym (shr-shr (spelled p) (128 - len) (left - 1)))
     ∙ sym (part-bit len (spelled p / 2 ^ (128 - len)) (left - 1) (omega arith))
 
 -- The same bit, as the last of the part with one bit more.

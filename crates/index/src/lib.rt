@@ -1,5 +1,7 @@
 // One record more in an index over a table of VRPs: a tree of prefixes in lent memory (02, Q-7). One code for both families, with the
 // width of their prefixes handed in.
+#![tactic(auto)]
+
 pub mod placing;
 
 ghost use Rattle.rules.specs.Origin.{ipv4, ipv6};

@@ -33,7 +33,7 @@ fn child(memory: &[u32], node: usize, b: usize) -> usize
 }
 
 // The last node on the way of a prefix, and how many of its bits are left there.
-#[derive(Drop)]
+#[derive(Clone, Copy)]
 struct Way {
     node: usize,
     left: usize,

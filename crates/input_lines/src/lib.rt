@@ -1,5 +1,7 @@
 // Lines cut from input that comes in pieces of any size (01, "The desk program"). A line that has begun is held in memory that the
 // caller lends, `line`, from one piece to the next.
+#![tactic(auto)]
+
 ghost use Rattle.std.specs.Prelude.{◌≡◌, ◌++◌, ◌≤◌, length, take};
 ghost use Rattle.input_lines.specs.Lines.{held_max, LineEnd, Holds, Took};
 
@@ -13,7 +15,7 @@ pub const LINE_FEED: u8 = 10;
 pub const HELD_MAX: usize = DIGITS_MAX + 1;
 
 // What one cut gives: how many bytes of the piece it took, how many are held of the line then, and whether the line has ended.
-#[derive(Drop)]
+#[derive(Clone, Copy)]
 pub struct Cut {
     pub taken: usize,
     pub held: usize,

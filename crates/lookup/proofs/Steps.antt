@@ -5,7 +5,7 @@ use mathlib.Core.Bool.{true, false}
 use mathlib.Core.List.{List}
 use native.Mathlib.Omega.{arith}
 use lib.ListN.{get_or}
-use lib.Pow.{shr_shr}
+use lib.Pow.{shr-shr}
 use Rattle.rules.specs.declared.Words.{Words}
 use Rattle.rules.specs.Origin.{spelled}
 use Rattle.vrps.proofs.Words.{octet_bit}
@@ -111,5 +111,5 @@ pub octet_begins : (p : Words) (len left : ℕ) → left ≤ len → len ≤ 128
 unfolding leading_bits
 octet_begins p len left h m d {octet} e k j l =
     let a : 128 - len + (left - suc k) ≡ 120 - 8 * ((len - left) / 8) + (7 - k) = omega arith in
-    ap (λ (n : ℕ). n % 2) (shr_shr (spelled p) (128 - len) (left - suc k)) ∙ ap (λ (n : ℕ). spelled p / 2 ^ n % 2) a
+    ap (λ (n : ℕ). n % 2) (shr-shr (spelled p) (128 - len) (left - suc k)) ∙ ap (λ (n : ℕ). spelled p / 2 ^ n % 2) a
     ∙ sym (octet_bit (spelled p) (120 - 8 * ((len - left) / 8)) (7 - k) (omega arith)) ∙ ap (λ (n : ℕ). n / 2 ^ (7 - k) % 2) (sym e)

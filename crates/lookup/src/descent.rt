@@ -16,7 +16,7 @@ use vrps::prefixes::octet;
 const OCTET: usize = 8;
 
 // Where a look-up stands: a node, 0 where none is left, and what it has seen.
-#[derive(Drop)]
+#[derive(Clone, Copy)]
 struct Place {
     node: usize,
     seen: usize,

@@ -1,5 +1,7 @@
 // The look-up in an index over a table of VRPs: a tree of prefixes in lent memory (02, Q-7). One code for both families: an IPv4 prefix is the
 // first of four words.
+#![tactic(auto)]
+
 pub mod descent;
 pub mod records;
 

@@ -1,5 +1,7 @@
 // Opening a session (RFC 9234 section 4.2, RFC 5492; 01, "Opening a session"): the OPEN's optional parameters are read to their
 // end, and then the roles that they held are judged.
+#![tactic(auto)]
+
 ghost use Rattle.std.specs.Prelude.{◌≡◌};
 ghost use Rattle.rules.specs.Answers.{told_opened};
 ghost use Rattle.rules.specs.Roles.{parameters_ok, roles_in, open_session};
@@ -16,7 +18,7 @@ const CAPABILITIES: u8 = 2;
 const ROLE: u8 = 9;
 
 // The role capabilities met so far: none, all of one value, or unequal ones.
-#[derive(Drop)]
+#[derive(Clone, Copy)]
 pub enum Seen {
     Absent,
     One(u8),
@@ -24,7 +26,7 @@ pub enum Seen {
 }
 
 // What reading the parameters finds.
-#[derive(Drop)]
+#[derive(Clone, Copy)]
 pub enum Found {
     Malformed,
     Roles(Seen),

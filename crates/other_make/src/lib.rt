@@ -1,5 +1,7 @@
 // Another make's block held against ours (02, Q-12; RFC 9234 section 5, egress): the checks and the verdict of sending, and then our attributes
 // looked up in the block that it sent. There is no buffer, and nothing is copied.
+#![tactic(auto)]
+
 pub mod found;
 pub mod parts;
 

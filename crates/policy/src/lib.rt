@@ -1,5 +1,7 @@
 // Receipt (RFC 9234 section 5, RFC 8097; 01, "Receipt"; 02, Q-8 and Q-11): the checks, the verdict, and the block rewritten. Sending is two
 // calls, each in a file of its own.
+#![tactic(auto)]
+
 pub mod placed;
 pub mod size;
 pub mod write;

@@ -2,7 +2,7 @@
 use rules::Refusal;
 
 // What receipt answers, and of a block that was taken where the AS_PATH of the block received stands.
-#[derive(Drop)]
+#[derive(Clone, Copy)]
 pub enum Placed {
     Block {
         length: usize,

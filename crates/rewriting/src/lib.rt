@@ -1,6 +1,8 @@
 // A block rewritten (01, "Receipt" and "Sending"; RFC 9234 section 5, RFC 8097): first the exact length of the result, then one
 // pass that stores it. Which communities are dropped, the flags of new attributes, the tag and the OTC are handed in. All of it is
 // internal: receipt and sending call it.
+#![tactic(auto)]
+
 pub mod attribute;
 pub mod plan;
 pub mod planner;

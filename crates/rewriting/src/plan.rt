@@ -4,7 +4,7 @@
 // begins (the block's length where there is none), how many bytes of communities are left, where a new tag and a new OTC would
 // go, how many bytes go out, the number of the test that picks the communities to drop, the flags of new attributes, the state
 // that a tag tells (3: no tag), and the AS that a new OTC names (0: no new OTC).
-#[derive(Drop)]
+#[derive(Clone, Copy)]
 pub struct Plan {
     pub communities: usize,
     pub rest: usize,
@@ -19,7 +19,7 @@ pub struct Plan {
 }
 
 // What storing a block answers: how many bytes were stored, and how many tags of the block are thrown out; or that there is no room.
-#[derive(Drop)]
+#[derive(Clone, Copy)]
 pub enum Output {
     Bytes { length: usize, thrown_out: usize },
     Full,

@@ -1,10 +1,10 @@
 -- 02, Q-12: what the check of another make answers, way by way; that it says yes exactly where the block conforms; and that our own block does.
 use mathlib.Core.Path.{◌≡◌, refl, sym, ap, ◌∙◌, subst}
 use mathlib.Core.Bool.{Bool, true, false, cond, ◌&&◌, and-false, false≢true, true≢false}
-use mathlib.Core.List.{List, [], ◌∷◌, ◌++◌}
+use mathlib.Core.List.{List, [], ◌∷◌}
 use Prim.Native.Nat.{ℕ, ◌≤◌, ◌<◌}
 use native.Mathlib.Omega.{arith}
-use lib.Dec.{leb, ltb, eqb}
+use lib.Dec.{eqb}
 use lib.ListN.{length, take}
 use borrow.Author.Tests.{lt-ltb, le-ltb, ltb-false}
 use Rattle.rules.specs.Bytes.{is_empty, exists, one_of}
@@ -18,7 +18,7 @@ use Rattle.rules.specs.OtherMake.{same_attributes, yes, no, withheld_is_no, allo
 use Rattle.rules.specs.declared.Refusal.{Refusal}
 use Rattle.rules.specs.declared.Refusal.TheVariants.{Withheld, BadSetting, BadLength, NoRoom}
 use Rattle.rules.specs.declared.Session.{Session}
-use Rattle.rules.proofs.Answers.{here, past, earlier, answer-decided, answer-passed, answer-done, answer-past, answer-refused, order-whole, Passed}
+use Rattle.rules.proofs.Answers.{here, earlier, answer-decided, answer-passed, answer-done, answer-past, answer-refused, order-whole, Passed}
 use Rattle.rules.proofs.Buffers.{leaves-stored}
 use Rattle.rules.proofs.Agreeing.{agreement}
 use Rattle.rules.proofs.Lists.{and_left, and_right}

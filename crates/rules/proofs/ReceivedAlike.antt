@@ -1,8 +1,8 @@
 -- 02, Q-12, and beyond it: receipt of an allowed block is refused as that of ours is, or not at all.
-use mathlib.Core.Path.{◌≡◌, refl, sym, ap, ◌∙◌, subst}
-use mathlib.Core.Bool.{Bool, true, false, not, cond, ◌&&◌}
+use mathlib.Core.Path.{◌≡◌, refl, sym, ap, ◌∙◌}
+use mathlib.Core.Bool.{Bool, true, false, cond, ◌&&◌}
 use mathlib.Core.List.{List, [], ◌∷◌, ◌++◌}
-use Prim.Native.Nat.{ℕ, ◌+◌, ◌≤◌}
+use Prim.Native.Nat.{ℕ, ◌≤◌}
 use native.Mathlib.Omega.{arith}
 use lib.Dec.{ltb, eqb}
 use lib.ListN.{length}
@@ -14,7 +14,6 @@ use Rattle.rules.specs.Changes.{block_checks}
 use Rattle.rules.specs.Receipt.{receipt_rules, receipt_verdict}
 use Rattle.rules.specs.Sending.{sending_result}
 use Rattle.rules.specs.OtherMake.{Reordered, none, taken, Conforms, ReceivedAlike}
-use Rattle.rules.specs.declared.Session.{Session}
 use Rattle.rules.proofs.Parts.{is, count, count_cons, has-count}
 use Rattle.rules.proofs.Lists.{bit}
 use Rattle.rules.proofs.Readable.{Good, good-fault, read_back}

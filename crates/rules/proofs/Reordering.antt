@@ -1,6 +1,6 @@
 -- The same attributes in any order and either length form: what the test of it says, and that such attributes make a readable block.
 use mathlib.Core.Path.{◌≡◌, refl, sym, ap, ◌∙◌, subst}
-use mathlib.Core.Bool.{Bool, true, false, cond, ◌&&◌, ◌||◌, true≢false, false≢true}
+use mathlib.Core.Bool.{Bool, true, false, ◌&&◌, ◌||◌, false≢true}
 use mathlib.Core.List.{List, [], ◌∷◌, ◌++◌}
 use Prim.Native.Nat.{ℕ, suc, ◌+◌, ◌≤◌}
 use native.Mathlib.Omega.{arith}
@@ -8,11 +8,11 @@ use lib.Dec.{leb, ltb, eqb}
 use lib.ListN.{length, length-append}
 use borrow.Author.Tests.{eq-eqb, eqb-true, leb-true, le-leb}
 use Rattle.rules.specs.Bytes.{every, exists, same_bytes}
-use Rattle.rules.specs.Attributes.{Attribute, is_type, has, value_fault}
+use Rattle.rules.specs.Attributes.{Attribute, is_type, has}
 use Rattle.rules.specs.OtherMake.{flags_apart, alike, same_attributes, EitherForm, Reordered, none, taken}
 use Rattle.rules.proofs.Lists.{bit, and_left, and_right, neither, nil_of_length, keep_append, same_self, same_true}
-use Rattle.rules.proofs.Parts.{only, is, count, count_cons, has-none, has-count}
-use Rattle.rules.proofs.Blocks.{All, all_map, Framed}
+use Rattle.rules.proofs.Parts.{only, is, count, count_cons, has-count}
+use Rattle.rules.proofs.Blocks.{All, Framed}
 use Rattle.rules.proofs.Readable.{Fine, Good}
 
 -- ---- One attribute
@@ -96,7 +96,9 @@ reordered_both o none = (refl, refl)
 reordered_both {theirs = theirs} o (taken {a} {b} {ours} before after f e r) =
     let t = once_tail a ours o in
     let ih = reordered_both t.0 r in
-    (rw e (rw (exists_middle (alike a) before b after, form-alike f, among-others before b after ours (ap (λ (k : ℕ). has k ours) (sym f.type) ∙ t.1)) ih.0), omega (arith, ap length e, length_middle before b after, ih.1))
+    let others : among_all ours (before ++ (b ∷ after)) ≡ true = among-others before b after ours (ap (λ (k : ℕ). has k ours) (sym f.type) ∙ t.1) ∙ ih.0 in
+    let middle : exists (alike a) (before ++ (b ∷ after)) ≡ true = rw (exists_middle (alike a) before b after, form-alike f) refl in
+    (subst (λ (l : List Attribute). among_all (a ∷ ours) l ≡ true) (sym e) (ap (λ (x : Bool). x && among_all ours (before ++ (b ∷ after))) middle ∙ others), omega (arith, ap length e, length_middle before b after, ih.1))
 
 both_reordered : (ours theirs : List Attribute) → Once ours → among_all ours theirs ≡ true → length theirs ≤ length ours → Reordered ours theirs
 unfolding every

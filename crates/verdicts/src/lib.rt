@@ -1,5 +1,7 @@
 // The rules of receipt and sending, and what they drop and add (01, "Receipt" and "Sending"; 02, Q-2 and Q-11; RFC 9234 section 5). All
 // of it is internal: receipt and sending call it.
+#![tactic(auto)]
+
 ghost use Rattle.std.specs.Prelude.{◌≡◌, true, not, cond, ◌&&◌, [], ◌∷◌, ◌≤◌, eqb};
 ghost use Rattle.std.proofs.Math.Option.{none, some};
 ghost use Rattle.rules.specs.Bytes.{one_of};

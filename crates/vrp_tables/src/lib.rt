@@ -1,5 +1,7 @@
 // The table of VRPs: records one after the other, at most 4,096 (01, "Origin state" and "Sizes"). One code for both families, with the
 // width of their prefixes handed in.
+#![tactic(auto)]
+
 pub mod parts;
 
 ghost use Rattle.std.specs.Prelude.{◌≡◌};
@@ -13,7 +15,7 @@ use settings::states::{INVALID, NOT_FOUND, VALID};
 use vrps::{AFTER_PREFIX, COVERS, MATCHES, bad_vrp, weigh};
 
 // What checking a table answers: how many records it has.
-#[derive(Drop)]
+#[derive(Clone, Copy)]
 pub enum Table {
     Records(usize),
     Refused(Refusal),

@@ -8,7 +8,7 @@ use native.Mathlib.Numerals.{add-one}
 use native.Mathlib.Omega.{arith}
 use borrow.Author.Tests.{eqb-true, eqb-false, ltb-true, ltb-false}
 use lib.Dec.{eqb, ltb}
-use lib.Pow.{shr_shr, pow_pos, pow-add}
+use lib.Pow.{shr-shr, pow_pos, pow-add}
 use Rattle.rules.specs.declared.Words.{Words}
 use Rattle.rules.specs.Origin.{spelled, prefix_in}
 use Rattle.vrp_tree.specs.Tree.{leading_bits, part_of}
@@ -41,7 +41,7 @@ below b r k j h =
 -- One bit more.
 pub deeper : (q left : ℕ) → q / 2 ^ left ≡ q / 2 ^ suc left * 2 + q / 2 ^ left % 2
 deeper q left =
-    let e : q / 2 ^ suc left ≡ q / 2 ^ left / 2 = rw (← add-one left) (sym (shr_shr q left 1)) in
+    let e : q / 2 ^ suc left ≡ q / 2 ^ left / 2 = rw (← add-one left) (sym (shr-shr q left 1)) in
     rw e (omega arith)
 
 -- Fewer bits of a part.
@@ -50,7 +50,7 @@ part_up w p l left h k =
     let e : l ≡ l - left + left = omega arith in
     let f : 2 ^ l ≡ 2 ^ (l - left) * 2 ^ left = ap (λ (m : ℕ). 2 ^ m) e ∙ pow-add 2 (l - left) left in
     let g : w - l + left ≡ w - (l - left) = omega arith in
-    rw f (mul-add-div_right (pow_pos left) (2 ^ (l - left)) (p / 2 ^ (w - l)) ∙ rw (shr_shr, g))
+    rw f (mul-add-div_right (pow_pos left) (2 ^ (l - left)) (p / 2 ^ (w - l)) ∙ rw (shr-shr, g))
 
 -- The empty part.
 pub part-root : (w p l : ℕ) → l ≤ w → p < 2 ^ w → part_of w p l / 2 ^ l ≡ 1
@@ -68,4 +68,4 @@ pub leading_bits_lem : (w : ℕ) (p : Words) (len : ℕ) → len ≤ w → w ≤
 unfolding prefix_in leading_bits
 leading_bits_lem w p len h m =
     let e : 128 - w + (w - len) ≡ 128 - len = omega arith in
-    shr_shr (spelled p) (128 - w) (w - len) ∙ ap (λ (n : ℕ). spelled p / 2 ^ n) e
+    shr-shr (spelled p) (128 - w) (w - len) ∙ ap (λ (n : ℕ). spelled p / 2 ^ n) e

@@ -11,7 +11,7 @@ use lib.Dec.{leb}
 use lib.ListN.{length, take, drop, length-drop}
 use lib.Arith.{digits_lt}
 use lib.Seq.{length-take-le}
-use lib.Pow.{shr_shr, shr_lt, high, low, split}
+use lib.Pow.{shr-shr, shr_lt, high, low, split}
 use Rattle.rules.specs.declared.Words.{Words}
 use Rattle.rules.specs.Bytes.{big_endian, part}
 use Rattle.rules.specs.Origin.{spelled, prefix_in, agree}
@@ -49,10 +49,10 @@ module _ (p : Words) (f : Ranged p) where
   without_1 = high ((p.first * 2 ^ 32 + p.second) * 2 ^ 32 + p.third) 32 f.3
 
   without_2 : spelled p / 2 ^ 64 ≡ p.first * 2 ^ 32 + p.second
-  without_2 = sym (shr_shr (spelled p) 32 32) ∙ rw without_1 (high (p.first * 2 ^ 32 + p.second) 32 f.2)
+  without_2 = sym (shr-shr (spelled p) 32 32) ∙ rw without_1 (high (p.first * 2 ^ 32 + p.second) 32 f.2)
 
   without_3 : spelled p / 2 ^ 96 ≡ p.first
-  without_3 = sym (shr_shr (spelled p) 64 32) ∙ rw without_2 (high p.first 32 f.1)
+  without_3 = sym (shr-shr (spelled p) 64 32) ∙ rw without_2 (high p.first 32 f.1)
 
   -- A prefix of one word is the first.
   pub prefix-first : prefix_in 32 p ≡ p.first
@@ -84,7 +84,7 @@ module _ (p : Words) (f : Ranged p) where
       ap (λ (n : ℕ). n / 2 ^ (24 - 8 * (i % 4)) % 2 ^ 8) (sym (spelled_word (i / 4) (omega arith)))
       ∙ ap (λ (n : ℕ). spelled p / 2 ^ (128 - 32 * suc (i / 4)) % 2 ^ n / 2 ^ (24 - 8 * (i % 4)) % 2 ^ 8) d
       ∙ bits-low (spelled p / 2 ^ (128 - 32 * suc (i / 4))) (24 - 8 * (i % 4)) (8 * (i % 4)) 8
-      ∙ ap (λ (n : ℕ). n % 2 ^ 8) (shr_shr (spelled p) (128 - 32 * suc (i / 4)) (24 - 8 * (i % 4)) ∙ ap (λ (n : ℕ). spelled p / 2 ^ n) e)
+      ∙ ap (λ (n : ℕ). n % 2 ^ 8) (shr-shr (spelled p) (128 - 32 * suc (i / 4)) (24 - 8 * (i % 4)) ∙ ap (λ (n : ℕ). spelled p / 2 ^ n) e)
     where
       at : (k r : ℕ) → k < 4 → r < 4 → 128 - 32 * suc k + (24 - 8 * r) ≡ 120 - 8 * (4 * k + r)
       at k r h l = omega arith
@@ -93,7 +93,7 @@ module _ (p : Words) (f : Ranged p) where
   unfolding prefix_in
   prefix_word w k l m =
       let e : 128 - w + (w - 32 * suc k) ≡ 128 - 32 * suc k = omega arith in
-      ap (λ (n : ℕ). n % 2 ^ 32) (shr_shr (spelled p) (128 - w) (w - 32 * suc k) ∙ ap (λ (n : ℕ). spelled p / 2 ^ n) e) ∙ spelled_word k (omega arith)
+      ap (λ (n : ℕ). n % 2 ^ 32) (shr-shr (spelled p) (128 - w) (w - 32 * suc k) ∙ ap (λ (n : ℕ). spelled p / 2 ^ n) e) ∙ spelled_word k (omega arith)
 
   -- It is less than a number of w bits.
   pub prefix-below : (w : ℕ) → w ≤ 128 → prefix_in w p < 2 ^ w
@@ -114,7 +114,7 @@ module _ (p : Words) (f : Ranged p) where
 pub octet_bit : (x a j : ℕ) → j < 8 → x / 2 ^ a % 2 ^ 8 / 2 ^ j % 2 ≡ x / 2 ^ (a + j) % 2
 octet_bit x a j h =
     let d : 8 ≡ 7 - j + 1 + j = omega arith in
-    ap (λ (n : ℕ). x / 2 ^ a % 2 ^ n / 2 ^ j % 2) d ∙ bits-low (x / 2 ^ a) j (7 - j) 1 ∙ ap (λ (n : ℕ). n % 2) (shr_shr x a j)
+    ap (λ (n : ℕ). x / 2 ^ a % 2 ^ n / 2 ^ j % 2) d ∙ bits-low (x / 2 ^ a) j (7 - j) 1 ∙ ap (λ (n : ℕ). n % 2) (shr-shr x a j)
 
 -- Where a prefix of whole words goes on, it has a whole word more.
 word_room : (w k : ℕ) → w % 32 ≡ 0 → 32 * k < w → 32 * suc k ≤ w

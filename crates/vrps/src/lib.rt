@@ -1,5 +1,7 @@
 // VRP records: prefix, length, maximum length and ASN; covers, matches (RFC 6811 section 2; 01, "Origin state"; 02, Q-1). One code for
 // both families, with the width of their prefixes handed in.
+#![tactic(auto)]
+
 pub mod prefixes;
 
 ghost use Rattle.std.specs.Prelude.{◌≡◌, length};

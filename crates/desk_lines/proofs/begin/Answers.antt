@@ -1,0 +1,8 @@
+-- `begin` meets its contract.
+use mathlib.Core.Path.{refl}
+use Rattle.desk_lines.specs.Machine.{begun}
+use Rattle.desk_lines.proofs.begin.Goals as goal
+
+pub returns : goal.returns
+unfolding begun
+returns c = rw c.session_of.ensures refl

@@ -1,0 +1,6 @@
+-- `numbered` meets its contract.
+use mathlib.Core.Path.{refl}
+use Rattle.frames.proofs.reply.numbered.Goals as goal
+
+pub returns : goal.returns
+returns c = refl

@@ -1,0 +1,12 @@
+-- `copy` meets its contract. The loop's invariant: out is what it was with the first j bytes of src in it from `at` on.
+use Prim.Native.Nat.{◌-◌, ◌≤◌}
+use mathlib.Core.Path.{◌≡◌}
+use lib.ListN.{length}
+use lib.Seq.{paste}
+use Rattle.octets.proofs.buffer.copy.Given as goal
+
+abbrev pub invariant-loop-j : goal.invariant-loop-j
+invariant-loop-j l = (l.out ≡ paste l.initial.out l.at l.src l.j) × (l.j ≤ length l.src) × (length l.out ≡ length l.initial.out)
+
+abbrev pub decreases-loop-j : goal.decreases-loop-j
+decreases-loop-j l = length l.src - l.j

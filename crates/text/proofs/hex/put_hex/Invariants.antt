@@ -1,0 +1,12 @@
+-- `put_hex` meets its contract. The loop's invariant: all is stored but the digits of the bytes from i on.
+use Prim.Native.Nat.{◌+◌, ◌-◌, ◌≤◌, ◌%◌}
+use lib.ListN.{length, drop, get_or}
+use Rattle.rules.specs.Text.{to_hex, upper_digit}
+use Rattle.octets.proofs.Writing.{Writing, writing_start, writing-rest, writing-room, writing_step, writing-end, writing-length}
+use Rattle.text.proofs.hex.put_hex.Given as goal
+
+abbrev pub invariant-loop-i : goal.invariant-loop-i
+invariant-loop-i l = (l.i ≤ length l.src) × Writing l.initial.out l.at (to_hex l.src) l.out l.w (to_hex (drop l.i l.src))
+
+abbrev pub decreases-loop-i : goal.decreases-loop-i
+decreases-loop-i l = length l.src - l.i

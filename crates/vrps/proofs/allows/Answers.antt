@@ -1,0 +1,23 @@
+-- `allows` meets its contract.
+use native.Mathlib.Omega.{arith}
+use Rattle.rules.specs.Origin.{vrp_size, vrp}
+use Rattle.vrps.proofs.Records.{allowed_longer, allowed_as}
+use Rattle.vrps.proofs.allows.Goals as goal
+
+pub bounds-bytes-at : goal.bounds-bytes-at
+unfolding vrp_size
+bounds-bytes-at c = omega (arith, c.requires)
+
+pub returns-then-bytes-at : goal.returns-then-bytes-at
+unfolding vrp
+returns-then-bytes-at c = let a = c.args in
+    allowed_longer (vrp a.width a.bytes.now) a.len _ c.if-bytes-at.true
+
+pub number4_at-requires : goal.number4_at-requires
+unfolding vrp_size
+number4_at-requires c = omega (arith, c.requires)
+
+pub returns : goal.returns
+unfolding vrp
+returns c = let a = c.args in
+    allowed_as (vrp a.width a.bytes.now) a.len _ c.if-bytes-at.false c.number4_at.ensures c.same_as.ensures
