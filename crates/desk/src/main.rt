@@ -13,7 +13,7 @@ use desk_lines::{begin, feed, finish};
 use desk_memory::sizes::TABLES_MAX;
 use frames::sizes::RESULT_MAX;
 use input_lines::HELD_MAX;
-use libc::{STDERR_FILENO, STDIN_FILENO, STDOUT_FILENO};
+use std::io::{Print, Read};
 
 // The bytes that are read, and written, at once at most.
 const PIECE_MAX: usize = 65536;
@@ -47,6 +47,7 @@ fn hand_over(
     made: &mut [u8],
     tables: &mut [u8],
     out: &mut [u8],
+    to: &impl Print,
 ) -> Handed
     requires { (Ready state tables.old line.old) × (state.number + length piece.now < 2 ^ 64)
         × (Lent raw.old made.old out.old answer_max) × (state.wrote ≡ 0) }
@@ -61,7 +62,7 @@ fn hand_over(
         let after = progress.state;
         let wrote = after.wrote;
         now = emptied(after);
-        if !io::write_all(STDOUT_FILENO, &out[..wrote]) {
+        if to.write_all(&out[..wrote]).is_err() {
             return Handed {
                 written: false,
                 state: now,
@@ -75,17 +76,19 @@ fn hand_over(
 }
 
 // Says that standard input can't be read.
-fn say_unread() {
+fn say_unread(to: &impl Print) {
     let said = [
         b'd', b'e', b's', b'k', b':', b' ', b'r', b'e', b'a', b'd', b' ', b'e', b'r', b'r', b'o',
         b'r', b'\n',
     ];
-    io::write_all(STDERR_FILENO, &said);
+    let _ = to.write_all(&said);
 }
 
 // Answers standard input line by line. Nothing says that an input ends, so the turns are counted down from a number that no run
 // uses up.
-fn main() {
+fn main(rt: HostRuntime) {
+    let to = rt.stdout();
+    let mut from = rt.stdin();
     let mut chunk = [0u8; PIECE_MAX];
     let mut line = [0u8; HELD_MAX];
     let mut raw = [0u8; FRAME_MAX];
@@ -95,12 +98,13 @@ fn main() {
     let mut state = begin();
     let mut turns: u64 = 140737488355328;
     while 0 < turns {
-        let got = libc::read(STDIN_FILENO, &mut chunk);
-        if got < 0 {
-            say_unread();
-            return;
-        }
-        let n = io::count(got, &chunk);
+        let n = match from.read(&mut chunk) {
+            Ok(n) => n,
+            Err(_) => {
+                say_unread(&rt.stderr());
+                return;
+            }
+        };
         if n == 0 {
             break;
         }
@@ -112,6 +116,7 @@ fn main() {
             &mut made,
             &mut tables,
             &mut out,
+            &to,
         );
         if !handed.written {
             return;
@@ -120,5 +125,5 @@ fn main() {
         turns -= 1;
     }
     let wrote = finish(state, &line, &mut raw, &mut made, &mut tables, &mut out);
-    io::write_all(STDOUT_FILENO, &out[..wrote]);
+    let _ = to.write_all(&out[..wrote]);
 }
