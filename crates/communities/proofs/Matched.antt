@@ -12,7 +12,6 @@ use Rattle.rules.specs.Changes.{drop_from}
 use Rattle.rules.proofs.Lists.{same-append}
 use Rattle.octets.proofs.Slices.{part-is, part_length, tail_is}
 use Rattle.octets.proofs.Same.{same_lengths}
-use Rattle.communities.specs.Tags.{kept}
 use Rattle.communities.proofs.Dropped.{kept-none, kept_whole, left_step, left_end}
 
 -- Two rows by their first two bytes and the others.

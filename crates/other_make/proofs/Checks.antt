@@ -3,14 +3,13 @@ use mathlib.Core.Path.{◌≡◌, refl, sym, ap, ◌∙◌}
 use mathlib.Core.Bool.{Bool, true, false, cond, ◌&&◌}
 use mathlib.Core.List.{List}
 use Prim.Native.Nat.{ℕ, ◌≤◌}
-use native.Mathlib.Omega.{arith}
 use lib.Dec.{leb}
 use lib.ListN.{length}
 use borrow.Author.Tests.{leb-true, leb-false}
 use Rattle.rules.specs.Answers.{Answer, done, refused, number}
 use Rattle.rules.specs.Settings.{block_max}
 use Rattle.rules.specs.Attributes.{Attribute, attributes, encode, readable}
-use Rattle.rules.specs.Sending.{sending_result, sending_verdict, measured, send_size}
+use Rattle.rules.specs.Sending.{sending_verdict, measured, send_size}
 use Rattle.rules.specs.OtherMake.{same_attributes, yes, no, allowed}
 use Rattle.rules.specs.declared.Refusal.{Refusal}
 use Rattle.rules.specs.declared.Refusal.TheVariants.{NoRoom}

@@ -1,10 +1,10 @@
 -- Some of our attributes looked up: one, none, and those of a block one after the other as they go out.
 use mathlib.Core.Path.{◌≡◌, refl, sym, ap, ◌∙◌, subst}
-use mathlib.Core.Bool.{Bool, true, false, cond, ◌&&◌, and-true, true≢false}
+use mathlib.Core.Bool.{Bool, true, false, cond, ◌&&◌, true≢false}
 use mathlib.Core.List.{List, [], ◌∷◌, ◌++◌, flat_map}
 use Prim.Native.Nat.{ℕ, ◌+◌, ◌-◌, ◌≤◌, ◌<◌}
 use native.Mathlib.Omega.{arith}
-use lib.Dec.{leb, eqb}
+use lib.Dec.{leb}
 use lib.ListN.{length, take, drop, length-append}
 use borrow.Author.Tests.{eqb-true}
 use Rattle.rules.specs.Bytes.{is_empty, every, exists, bytes2}
@@ -14,7 +14,7 @@ use Rattle.rules.specs.Changes.{drop_from, with_value}
 use Rattle.rules.specs.OtherMake.{flags_apart}
 use Rattle.rules.proofs.Lists.{every_append, neither, nil_of_length, is_empty_not}
 use Rattle.rules.proofs.Values.{anew, long-set}
-use Rattle.rules.proofs.Blocks.{All as Each, all_map}
+use Rattle.rules.proofs.Blocks.{All as Each}
 use Rattle.rules.proofs.Readable.{read-good, readable-whole}
 use Rattle.rules.proofs.Reordering.{Once, once_tail}
 use Rattle.attributes.proofs.Sizes.{item-least}

@@ -1,5 +1,5 @@
 -- All of our attributes looked up, part by part, and what that answers.
-use mathlib.Core.Path.{◌≡◌, refl, sym, ap, ◌∙◌, subst}
+use mathlib.Core.Path.{◌≡◌, refl, ◌∙◌, subst}
 use mathlib.Core.Bool.{Bool, true, false, cond, ◌&&◌, and-false}
 use mathlib.Core.List.{List}
 use Prim.Native.Nat.{ℕ, ◌+◌, ◌≤◌, ◌<◌}
@@ -9,11 +9,11 @@ use lib.ListN.{length}
 use borrow.Author.Tests.{le-leb, lt-leb}
 use Rattle.rules.specs.Bytes.{every}
 use Rattle.rules.specs.Rows.{chop, whole}
-use Rattle.rules.specs.Answers.{Answer, done, refused}
+use Rattle.rules.specs.Answers.{done, refused}
 use Rattle.rules.specs.Settings.{block_max}
 use Rattle.rules.specs.Attributes.{Attribute, attributes, attribute_size, encode, has_otc, long, readable}
 use Rattle.rules.specs.Changes.{rewritten}
-use Rattle.rules.specs.OtherMake.{same_attributes, yes, no}
+use Rattle.rules.specs.OtherMake.{yes, no}
 use Rattle.rules.specs.declared.Refusal.TheVariants.{NoRoom}
 use Rattle.rules.proofs.Readable.{Good, read-good}
 use Rattle.rules.proofs.Dropping.{left}

@@ -1,6 +1,6 @@
 -- Walks over the attributes of a block: from a place on, one attribute at a time, up to the end or an overrun.
-use mathlib.Core.Path.{◌≡◌, refl, sym, ap, ◌∙◌, subst}
-use mathlib.Core.Bool.{Bool, true, false, cond}
+use mathlib.Core.Path.{◌≡◌, refl, sym, ap, ◌∙◌}
+use mathlib.Core.Bool.{true, false, cond}
 use mathlib.Core.List.{List, [], ◌∷◌}
 use Prim.Native.Nat.{ℕ, ◌+◌, ◌-◌, ◌≤◌, ◌<◌}
 use native.Mathlib.Omega.{arith}
@@ -10,7 +10,7 @@ use lib.Seq.{drop-drop, get_or-take, get_or-drop}
 use borrow.Author.Tests.{eq-eqb, ne_eqb}
 use Rattle.rules.specs.Bytes.{is_empty}
 use Rattle.rules.specs.Rows.{fit, chop, chop_up_to, whole}
-use Rattle.rules.specs.Attributes.{Attribute, attribute, attributes, attribute_size, encode_one, is_type}
+use Rattle.rules.specs.Attributes.{attribute, attributes, attribute_size, encode_one, is_type}
 use Rattle.rules.proofs.Lists.{is_empty_not}
 use Rattle.rules.proofs.Blocks.{encode-attribute}
 use Rattle.octets.proofs.Slices.{part-is}

@@ -5,12 +5,11 @@ use Rattle.rules.specs.Bytes.{every}
 use Rattle.rules.specs.Rows.{chop, whole}
 use Rattle.rules.specs.Answers.{Answer, done, refused}
 use Rattle.rules.specs.Settings.{block_max}
-use Rattle.rules.specs.Attributes.{Attribute, attribute, attributes, attribute_size, encode, encode_one, is_type, readable, communities_type}
+use Rattle.rules.specs.Attributes.{Attribute, attributes, attribute_size, encode, encode_one, is_type, readable, communities_type}
 use Rattle.rules.specs.Changes.{drop_from}
 use Rattle.rules.specs.OtherMake.{alike, same_attributes, yes, no}
 use Rattle.rules.specs.declared.Refusal.TheVariants.{NoRoom}
 use Rattle.communities.specs.Tags.{drop_test}
-use Rattle.rewriting.specs.Plan.{outgoing}
 use Rattle.other_make.specs.declared.found.Found.{Found}
 use Rattle.other_make.specs.declared.found.Found.TheVariants.{All, Missing}
 use Rattle.other_make.specs.declared.found.Counted.{Counted}

@@ -1,10 +1,10 @@
 -- The loop's invariant: the path from `at` on is well formed where the path is. The measure is the bytes left.
-use Prim.Native.Nat.{ℕ, ◌+◌, ◌-◌, ◌≤◌}
-use mathlib.Core.Path.{◌≡◌, refl, sym, ap, ◌∙◌}
+use Prim.Native.Nat.{ℕ, ◌+◌, ◌≤◌}
+use mathlib.Core.Path.{refl, sym, ap, ◌∙◌}
 use mathlib.Core.List.{List}
 use native.Mathlib.Omega.{arith}
-use lib.ListN.{length, drop}
-use Rattle.rules.specs.Attributes.{segment_size, as_path_ok}
+use lib.ListN.{length}
+use Rattle.rules.specs.Attributes.{segment_size}
 use Rattle.octets.proofs.Positions.{fit-room}
 use Rattle.as_path.proofs.Segments.{segment_least, path_torn, path_bad, path-good, path-end}
 use borrow.Author.Rules.{rules}
@@ -56,8 +56,7 @@ loop-at-smaller c =
 pub loop-at-preserved : goal.loop-at-preserved
 loop-at-preserved c =
     let bytes : List ℕ = c.args.path.now in
-    let fits : c.loop-at.at + c.fit_segment-n.result ≤ length bytes = fit-room segment_size bytes c.loop-at.at c.fit_segment-n.ensures c.loop-at.invariant.0 in
-    (
+    let fits : c.loop-at.at + c.fit_segment-n.result ≤ length bytes = fit-room segment_size bytes c.loop-at.at c.fit_segment-n.ensures c.loop-at.invariant.0 in (
       fits,
       sym (path-good bytes c.loop-at.at c.fit_segment-n.ensures c.if-n-eq0.false c.segment_ok.ensures (ap not c.if-not-segment_ok.false)) ∙ c.loop-at.invariant.1,
     )

@@ -1,8 +1,8 @@
 -- The loop's invariant: the path from `at` on is well formed where the path is. The measure is the bytes left.
-use Prim.Native.Nat.{ℕ, ◌+◌, ◌-◌, ◌≤◌}
-use mathlib.Core.Path.{◌≡◌, refl, sym, ◌∙◌}
+use Prim.Native.Nat.{◌-◌, ◌≤◌}
+use mathlib.Core.Path.{◌≡◌}
 use lib.ListN.{length, drop}
-use Rattle.rules.specs.Attributes.{segment_size, as_path_ok}
+use Rattle.rules.specs.Attributes.{as_path_ok}
 use Rattle.as_path.proofs.as_path_ok.Given as goal
 
 abbrev pub invariant-loop-at : goal.invariant-loop-at

@@ -1,10 +1,6 @@
 -- The loop's invariant: whether the ASNs from `at` on pass the test is whether all do. The measure is the bytes left.
-use Prim.Native.Nat.{◌-◌, ◌≤◌}
-use mathlib.Core.Path.{◌≡◌, refl, sym, ◌∙◌}
+use mathlib.Core.Path.{refl, sym, ◌∙◌}
 use native.Mathlib.Omega.{arith}
-use lib.ListN.{length}
-use lib.Dec.{leb}
-use Rattle.rules.specs.Bytes.{every}
 use Rattle.rules.specs.Attributes.{asns}
 use Rattle.octets.proofs.Slices.{part_length}
 use Rattle.as_path.proofs.Segments.{asns_from, asns_bad, asns-good, asns_through}

@@ -1,11 +1,11 @@
 -- The loop's invariant: whether the ASNs from `at` on pass the test is whether all do. The measure is the bytes left.
 use Prim.Native.Nat.{◌-◌, ◌≤◌}
-use mathlib.Core.Path.{◌≡◌, refl, sym, ◌∙◌}
+use mathlib.Core.Path.{◌≡◌}
 use lib.ListN.{length}
 use lib.Dec.{leb}
 use Rattle.rules.specs.Bytes.{every}
 use Rattle.rules.specs.Attributes.{asns}
-use Rattle.as_path.proofs.Segments.{asns_from, asns_bad, asns-good, asns_through}
+use Rattle.as_path.proofs.Segments.{asns_from}
 use Rattle.as_path.proofs.asns_ok.Given as goal
 
 abbrev pub invariant-loop-at : goal.invariant-loop-at

@@ -1,6 +1,6 @@
 -- The loop's invariant: what is counted and the length of the path from `at` on make the length of the path, which is at
 -- most its bytes. The measure is the bytes left.
-use Prim.Native.Nat.{ℕ, ◌+◌, ◌-◌, ◌≤◌}
+use Prim.Native.Nat.{ℕ, ◌+◌, ◌≤◌}
 use mathlib.Core.Path.{◌≡◌}
 use mathlib.Core.List.{List}
 use native.Mathlib.Omega.{arith}

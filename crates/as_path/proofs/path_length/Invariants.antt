@@ -1,9 +1,9 @@
 -- The loop's invariant: what is counted and the length of the path from `at` on make the length of the path, which is at
 -- most its bytes. The measure is the bytes left.
-use Prim.Native.Nat.{ℕ, ◌+◌, ◌-◌, ◌≤◌}
+use Prim.Native.Nat.{◌+◌, ◌-◌, ◌≤◌}
 use mathlib.Core.Path.{◌≡◌}
 use lib.ListN.{length, drop}
-use Rattle.rules.specs.Attributes.{segment_size, segments}
+use Rattle.rules.specs.Attributes.{segments}
 use Rattle.rules.specs.Choice.{path_length}
 use Rattle.as_path.proofs.path_length.Given as goal
 

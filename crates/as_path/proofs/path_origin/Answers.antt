@@ -1,14 +1,14 @@
 -- The loop's invariant: the origin so far, or the last of the segments from `at` on, gives the origin of the path.
 -- The measure is the bytes left.
-use Prim.Native.Nat.{ℕ, ◌+◌, ◌-◌, ◌≤◌}
-use mathlib.Core.Path.{◌≡◌, sym, ap, ◌∙◌}
+use Prim.Native.Nat.{ℕ, ◌+◌, ◌≤◌}
+use mathlib.Core.Path.{sym, ap, ◌∙◌}
 use mathlib.Core.List.{List, map}
 use mathlib.Core.Option.{Option}
 use native.Mathlib.Omega.{arith}
 use lib.ListN.{length, drop}
 use Rattle.rules.specs.Bytes.{last_or}
 use Rattle.rules.specs.Attributes.{segment_size, segments}
-use Rattle.rules.specs.Origin.{origin_in, final_origin, told_origin}
+use Rattle.rules.specs.Origin.{final_origin, told_origin}
 use Rattle.octets.proofs.Positions.{fit-room}
 use Rattle.as_path.proofs.Segments.{segment_whole, origin_last, origin-none, origin-next, segments_torn, segments-end}
 use borrow.Author.Rules.{rules}

@@ -1,11 +1,11 @@
 -- The loop's invariant: the origin so far, or the last of the segments from `at` on, gives the origin of the path.
 -- The measure is the bytes left.
-use Prim.Native.Nat.{ℕ, ◌+◌, ◌-◌, ◌≤◌}
-use mathlib.Core.Path.{◌≡◌, sym, ap, ◌∙◌}
-use mathlib.Core.List.{List, map}
+use Prim.Native.Nat.{◌-◌, ◌≤◌}
+use mathlib.Core.Path.{◌≡◌}
+use mathlib.Core.List.{map}
 use lib.ListN.{length, drop}
 use Rattle.rules.specs.Bytes.{last_or}
-use Rattle.rules.specs.Attributes.{segment_size, segments}
+use Rattle.rules.specs.Attributes.{segments}
 use Rattle.rules.specs.Origin.{origin_in, final_origin, told_origin}
 use Rattle.as_path.proofs.path_origin.Given as goal
 

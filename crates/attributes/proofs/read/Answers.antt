@@ -1,5 +1,5 @@
 -- `read` meets its contract: the loop walks the attributes up to a fault, and at the end ORIGIN and AS_PATH have been met.
-use Prim.Native.Nat.{ℕ, ◌+◌, ◌-◌, ◌≤◌}
+use Prim.Native.Nat.{ℕ, ◌+◌, ◌≤◌}
 use mathlib.Core.Path.{◌≡◌, sym, ◌∙◌}
 use mathlib.Core.List.{List}
 use native.Mathlib.Omega.{arith}
@@ -9,7 +9,7 @@ use Rattle.rules.specs.Attributes.{attribute_size}
 use Rattle.octets.proofs.Slices.{part-is}
 use Rattle.octets.proofs.Positions.{fit-here, fit-room}
 use Rattle.attributes.proofs.Sizes.{item-length, item-least, item-whole}
-use Rattle.attributes.proofs.Walk.{Walk, walk_start, walk_torn, walk_repeated, walk_own, walk_on, walk_no-origin, walk_no-path, walk_clean}
+use Rattle.attributes.proofs.Walk.{walk_start, walk_torn, walk_repeated, walk_own, walk_on, walk_no-origin, walk_no-path, walk_clean}
 use Rattle.attributes.proofs.read.Goals as goal
 
 pub loop-at-init : goal.loop-at-init

@@ -1,7 +1,7 @@
 -- `read` meets its contract: the loop walks the attributes up to a fault, and at the end ORIGIN and AS_PATH have been met.
-use Prim.Native.Nat.{ℕ, ◌+◌, ◌-◌, ◌≤◌}
-use lib.ListN.{length, drop}
-use Rattle.attributes.proofs.Walk.{Walk, walk_start, walk_torn, walk_repeated, walk_own, walk_on, walk_no-origin, walk_no-path, walk_clean}
+use Prim.Native.Nat.{◌-◌}
+use lib.ListN.{length}
+use Rattle.attributes.proofs.Walk.{Walk}
 use Rattle.attributes.proofs.read.Given as goal
 
 abbrev pub invariant-loop-at : goal.invariant-loop-at

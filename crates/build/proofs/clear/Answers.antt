@@ -1,9 +1,8 @@
 -- `clear` meets its contract. The invariant: what is passed is 0.
-use Prim.Native.Nat.{◌-◌, ◌≤◌}
-use mathlib.Core.Path.{◌≡◌, refl}
+use mathlib.Core.Path.{refl}
 use native.Mathlib.Omega.{arith}
-use lib.ListN.{length, length-set}
-use Rattle.build.proofs.Filling.{cleared, cleared-next, cleared-end}
+use lib.ListN.{length-set}
+use Rattle.build.proofs.Filling.{cleared-next, cleared-end}
 use Rattle.build.proofs.clear.Goals as goal
 
 pub loop-i-init : goal.loop-i-init

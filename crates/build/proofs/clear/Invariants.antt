@@ -1,8 +1,8 @@
 -- `clear` meets its contract. The invariant: what is passed is 0.
 use Prim.Native.Nat.{◌-◌, ◌≤◌}
-use mathlib.Core.Path.{◌≡◌, refl}
-use lib.ListN.{length, length-set}
-use Rattle.build.proofs.Filling.{cleared, cleared-next, cleared-end}
+use mathlib.Core.Path.{◌≡◌}
+use lib.ListN.{length}
+use Rattle.build.proofs.Filling.{cleared}
 use Rattle.build.proofs.clear.Given as goal
 
 abbrev pub invariant-loop-i : goal.invariant-loop-i

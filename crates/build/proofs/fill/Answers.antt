@@ -1,11 +1,10 @@
 -- `fill` meets its contract. The loop's invariant is that of a run over the table that has come to `at`.
-use Prim.Native.Nat.{◌-◌}
 use mathlib.Core.Path.{◌∙◌}
 use native.Mathlib.Omega.{arith}
-use lib.ListN.{length, length-set}
+use lib.ListN.{length-set}
 use Rattle.rules.specs.Origin.{vrp_size}
 use Rattle.octets.proofs.Slices.{part_length}
-use Rattle.build.proofs.Filling.{Run, run_start, run_none, run-good, run-number, run-next, run-full, run_end}
+use Rattle.build.proofs.Filling.{run_start, run_none, run-good, run-number, run-next, run-full, run_end}
 use Rattle.build.proofs.fill.Goals as goal
 
 pub returns-then-memory-lt-TRIPLE : goal.returns-then-memory-lt-TRIPLE

@@ -1,7 +1,7 @@
 -- `fill` meets its contract. The loop's invariant is that of a run over the table that has come to `at`.
 use Prim.Native.Nat.{◌-◌}
-use lib.ListN.{length, length-set}
-use Rattle.build.proofs.Filling.{Run, run_start, run_none, run-good, run-number, run-next, run-full, run_end}
+use lib.ListN.{length}
+use Rattle.build.proofs.Filling.{Run}
 use Rattle.build.proofs.fill.Given as goal
 
 abbrev pub invariant-loop-at : goal.invariant-loop-at

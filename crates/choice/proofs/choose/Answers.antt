@@ -1,17 +1,16 @@
 -- `choose` meets its contract. The loop's invariant: the candidates before `index` are met.
-use Prim.Native.Nat.{ℕ, ◌-◌, ◌≤◌, ◌<◌}
+use Prim.Native.Nat.{ℕ, ◌<◌}
 use mathlib.Core.Path.{◌≡◌, sym, ◌∙◌}
 use mathlib.Core.Bool.{true}
 use mathlib.Core.List.{List}
 use native.Mathlib.Omega.{arith}
-use borrow.Author.Tests.{not-true, not-false, ltb-true, ltb-false}
 use Rattle.rules.specs.Answers.{Answer, refused}
 use Rattle.rules.specs.Settings.{candidates_max, mode_ok}
 use Rattle.rules.specs.Choice.{Choice, bad_offer, choose_in, told_chosen}
 use Rattle.rules.specs.declared.Refusal.TheVariants.{BadCandidate}
 use Rattle.choice.specs.Bests.{left_in}
 use Rattle.choice.proofs.Candidates.{lent, range_bad, fault_bad, clean-good, clean_reads, offer-outside, offer-inside}
-use Rattle.choice.proofs.Choosing.{Met, met_start, met_next, choose_setting, choose_torn, choose_many, choose_bad, choose-none, choose-some}
+use Rattle.choice.proofs.Choosing.{met_start, met_next, choose_setting, choose_torn, choose_many, choose_bad, choose-none, choose-some}
 use borrow.Author.Rules.{rules}
 use Rattle.choice.proofs.choose.Goals as goal
 use Rattle.choice.proofs.choose.Goals.{then-offers-ne0-via-then-offers-ne0, then-offers-ne0-via-else-offers-ne0+then-count-gt-CANDIDATES_MAX}
@@ -25,8 +24,8 @@ unfolding told_chosen
 returns-then-offers-ne0 c =
     let ok : mode_ok c.args.mode ≡ true = sym c.mode_ok.ensures ∙ c.if-not-mode_ok.false in
     elim c.then-offers-ne0.branch [
-      then-offers-ne0-via-then-offers-ne0 w ↦ choose_torn _ _ _ _ ok w.if-offers-ne0.true
-    | then-offers-ne0-via-else-offers-ne0+then-count-gt-CANDIDATES_MAX w ↦
+      | then-offers-ne0-via-then-offers-ne0 w ↦ choose_torn _ _ _ _ ok w.if-offers-ne0.true
+      | then-offers-ne0-via-else-offers-ne0+then-count-gt-CANDIDATES_MAX w ↦
           choose_many _ _ _ _ ok w.if-offers-ne0.false w.if-count-gt-CANDIDATES_MAX.true
     ]
 

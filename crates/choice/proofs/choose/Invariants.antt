@@ -1,7 +1,7 @@
 -- `choose` meets its contract. The loop's invariant: the candidates before `index` are met.
-use Prim.Native.Nat.{ℕ, ◌-◌, ◌≤◌, ◌<◌}
-use Rattle.rules.specs.Settings.{candidates_max, mode_ok}
-use Rattle.choice.proofs.Choosing.{Met, met_start, met_next, choose_setting, choose_torn, choose_many, choose_bad, choose-none, choose-some}
+use Prim.Native.Nat.{◌-◌, ◌≤◌}
+use Rattle.rules.specs.Settings.{candidates_max}
+use Rattle.choice.proofs.Choosing.{Met}
 use Rattle.choice.proofs.choose.Given as goal
 
 abbrev pub invariant-loop-index : goal.invariant-loop-index

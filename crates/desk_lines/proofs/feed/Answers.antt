@@ -1,24 +1,22 @@
 -- `feed` meets its contract. The loop's invariant: the bytes before `at` are fed, and the memory lent has its sizes.
-use Prim.Native.Nat.{◌+◌, ◌-◌, ◌≤◌, ◌<◌}
-use mathlib.Core.Path.{◌≡◌, refl, ◌∙◌}
+use Prim.Native.Nat.{◌+◌, ◌≤◌, ◌<◌}
+use mathlib.Core.Path.{refl, ◌∙◌}
 use native.Mathlib.Omega.{arith}
 use lib.ListN.{length}
 use lib.Seq.{length-take-le}
 use Rattle.octets.proofs.Slices.{tail_length}
-use Rattle.desk_lines.specs.Machine.{Lent}
-use Rattle.desk_lines.proofs.Feeding.{Feeding, feeding_start, feeding_on, feeding_end}
+use Rattle.desk_lines.proofs.Feeding.{feeding_start, feeding_on, feeding_end}
 use Rattle.desk_lines.proofs.feed.Goals as goal
 
 pub loop-at-init : goal.loop-at-init
 loop-at-init c = (feeding_start c.args.out.now c.args.piece.now c.requires.0, c.requires.2, refl)
 
 pub feed_line-progress-requires : goal.feed_line-progress-requires
-feed_line-progress-requires c = let i = c.loop-at.invariant in
-    (
-      i.0.fed.consumed.ready,
-      omega (arith, i.0.fed.consumed.count, length-take-le c.loop-at.at c.args.piece.now i.0.within, c.loop-at-test.true, c.requires.1),
-      record { frame = i.1.frame; result = i.1.result; within = omega (arith, c.if-out-wrote-lt-ANSWER_MAX.false, i.1.within) },
-    )
+feed_line-progress-requires c = let i = c.loop-at.invariant in (
+  i.0.fed.consumed.ready,
+  omega (arith, i.0.fed.consumed.count, length-take-le c.loop-at.at c.args.piece.now i.0.within, c.loop-at-test.true, c.requires.1),
+  record { frame = i.1.frame; result = i.1.result; within = omega (arith, c.if-out-wrote-lt-ANSWER_MAX.false, i.1.within) },
+)
 
 pub overflow_add-at : goal.overflow_add-at
 overflow_add-at c =

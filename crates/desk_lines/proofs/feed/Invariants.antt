@@ -1,9 +1,9 @@
 -- `feed` meets its contract. The loop's invariant: the bytes before `at` are fed, and the memory lent has its sizes.
-use Prim.Native.Nat.{◌+◌, ◌-◌, ◌≤◌, ◌<◌}
-use mathlib.Core.Path.{◌≡◌, refl, ◌∙◌}
+use Prim.Native.Nat.{◌-◌}
+use mathlib.Core.Path.{◌≡◌}
 use lib.ListN.{length}
 use Rattle.desk_lines.specs.Machine.{Lent}
-use Rattle.desk_lines.proofs.Feeding.{Feeding, feeding_start, feeding_on, feeding_end}
+use Rattle.desk_lines.proofs.Feeding.{Feeding}
 use Rattle.desk_lines.proofs.feed.Given as goal
 
 abbrev pub invariant-loop-at : goal.invariant-loop-at

@@ -1,7 +1,6 @@
 -- `keep_frame` meets its contract, by the kind of the frame.
 use mathlib.Core.Path.{refl}
 use native.Mathlib.Omega.{arith}
-use borrow.Author.Tests.{not-true, not-false}
 use Rattle.rules.specs.Origin.{ipv4}
 use Rattle.octets.proofs.Slices.{tail_is}
 use Rattle.desk_memory.specs.Sizes.{table_max}

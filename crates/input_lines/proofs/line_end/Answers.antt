@@ -1,8 +1,5 @@
 -- `line_end` meets its contract. The loop's invariant: no byte before i is a line feed.
-use Prim.Native.Nat.{◌-◌, ◌≤◌}
 use native.Mathlib.Omega.{arith}
-use lib.ListN.{length, take}
-use Rattle.input_lines.specs.Lines.{NoFeed}
 use Rattle.input_lines.proofs.Lining.{free_more}
 use Rattle.input_lines.proofs.line_end.Goals as goal
 

@@ -1,7 +1,6 @@
 -- `open_session` meets its contract: each way out by its law, in the order of answers.
 use native.Mathlib.Omega.{arith}
 use mathlib.Core.Path.{sym, ◌∙◌, ap}
-use borrow.Author.Tests.{not-true, not-false}
 use Rattle.rules.specs.Answers.{done, told_opened}
 use Rattle.opening.proofs.Opened.{open_setting, open_length, open_malformed, open_rejected, open_done}
 use Rattle.opening.proofs.open_session.Goals as goal

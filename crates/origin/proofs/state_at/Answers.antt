@@ -1,7 +1,6 @@
 -- `state_at` meets its contract: 5, 6, 9, 3, and then the state by the block's path.
 use mathlib.Core.Path.{◌≡◌, sym, ap, ◌∙◌}
 use mathlib.Core.Bool.{true, ◌&&◌}
-use borrow.Author.Tests.{not-true, not-false}
 use Rattle.rules.specs.Answers.{told_stated}
 use Rattle.rules.specs.Settings.{prefix_length_ok, as_ok}
 use Rattle.rules.specs.Origin.{prefix_in, vrps, state_in}

@@ -5,7 +5,7 @@ use mathlib.Core.List.{List}
 use native.Mathlib.Omega.{arith}
 use lib.ListN.{length}
 use Prim.Native.Nat.{ℕ, ◌≤◌}
-use Rattle.rules.specs.Attributes.{attributes, has_otc, value_of, communities_type}
+use Rattle.rules.specs.Attributes.{attributes, value_of, communities_type}
 use Rattle.rules.specs.Changes.{drop_from}
 use Rattle.rules.proofs.Readable.{read-good}
 use Rattle.rules.proofs.Dropping.{left}

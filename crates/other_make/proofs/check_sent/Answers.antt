@@ -1,11 +1,10 @@
 -- `check_sent` meets its contract: each way out by its law, in the order of answers.
 use mathlib.Core.Path.{◌≡◌, refl, sym, ◌∙◌}
 use mathlib.Core.Bool.{true}
-use mathlib.Core.List.{List}
-use Prim.Native.Nat.{ℕ, ◌≤◌}
+use Prim.Native.Nat.{◌≤◌}
 use lib.Dec.{leb}
 use lib.ListN.{length}
-use borrow.Author.Tests.{not-true, not-false, leb-true, leb-false}
+use borrow.Author.Tests.{leb-true, leb-false}
 use Rattle.rules.specs.Settings.{block_max}
 use Rattle.rules.specs.Answers.{number}
 use Rattle.rules.specs.Attributes.{attributes}

@@ -1,5 +1,4 @@
 -- `compare` meets its contract: ours too long, one of ours missing, an overrun, one of theirs too many, and the same.
-use mathlib.Core.Path.{◌≡◌, sym, ◌∙◌}
 use mathlib.Core.List.{List}
 use Prim.Native.Nat.{ℕ, ◌≤◌}
 use native.Mathlib.Omega.{arith}

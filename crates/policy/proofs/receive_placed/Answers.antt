@@ -6,7 +6,6 @@ use mathlib.Core.Option.{some}
 use Prim.Native.Nat.{ℕ}
 use lib.Dec.{leb}
 use lib.ListN.{length}
-use borrow.Author.Tests.{not-true, not-false}
 use Rattle.rules.specs.Bytes.{one_of, exists}
 use Rattle.rules.specs.Answers.{Check, answer_number, number}
 use Rattle.rules.specs.Settings.{block_max, session_ok}
@@ -25,7 +24,6 @@ use Rattle.policy.specs.Placed.{told_placed, thrown_placed, state_placed}
 use Rattle.verdicts.proofs.Judging.{receipt_late}
 use Rattle.policy.proofs.Readings.{read-clean, has-found, otc-found, state-found}
 use Rattle.policy.proofs.Deciding.{rewritten-same, decided_setting, decided-length, decided-fault, decided_rule, decided-passed, leaves-refused, leaves-made}
-use borrow.Author.Rules.{rules}
 use Rattle.policy.proofs.receive_placed.Goals as goal
 
 pub returns-then-not-session_ok : goal.returns-then-not-session_ok

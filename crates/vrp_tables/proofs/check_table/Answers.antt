@@ -1,13 +1,11 @@
 -- `check_table` meets its contract, by the laws of a table at the width handed in. The loop's invariant is that of a check that has come
 -- to `at`.
-use Prim.Native.Nat.{◌-◌}
 use mathlib.Core.Path.{sym, ◌∙◌}
 use native.Mathlib.Omega.{arith}
-use lib.ListN.{length}
 use Rattle.rules.specs.Origin.{vrp_size}
 use Rattle.octets.proofs.Slices.{part_length}
 use Rattle.vrp_tables.specs.Table.{told_table}
-use Rattle.vrp_tables.proofs.Tables.{Checking, table_torn, table-long, table_start, table_bad, table-next, table-end}
+use Rattle.vrp_tables.proofs.Tables.{table_torn, table-long, table_start, table_bad, table-next, table-end}
 use Rattle.vrp_tables.proofs.check_table.Goals as goal
 
 pub returns-then-table-size-ne0 : goal.returns-then-table-size-ne0

@@ -2,7 +2,7 @@
 -- to `at`.
 use Prim.Native.Nat.{◌-◌}
 use lib.ListN.{length}
-use Rattle.vrp_tables.proofs.Tables.{Checking, table_torn, table-long, table_start, table_bad, table-next, table-end}
+use Rattle.vrp_tables.proofs.Tables.{Checking}
 use Rattle.vrp_tables.proofs.check_table.Given as goal
 
 abbrev pub invariant-loop-at : goal.invariant-loop-at

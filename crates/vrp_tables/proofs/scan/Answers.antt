@@ -1,13 +1,11 @@
 -- `scan` meets its contract, by the laws of a scan at the width handed in. The loop's invariant is that of a scan that has come to `at`.
-use Prim.Native.Nat.{◌-◌}
 use mathlib.Core.Path.{refl, ◌∙◌}
 use mathlib.Core.Bool.{or-true, or-false}
 use native.Mathlib.Omega.{arith}
 use borrow.Author.Tests.{eq-eqb, ne_eqb}
-use lib.ListN.{length}
-use Rattle.rules.specs.Origin.{prefix_in, vrp_size, told_origin}
+use Rattle.rules.specs.Origin.{vrp_size}
 use Rattle.octets.proofs.Slices.{part_length}
-use Rattle.vrp_tables.proofs.Scans.{Scanning, scan_start, scan_end, scan_good, scan_matches, scan_past}
+use Rattle.vrp_tables.proofs.Scans.{scan_start, scan_end, scan_good, scan_matches, scan_past}
 use Rattle.vrp_tables.proofs.scan.Goals as goal
 use Rattle.vrp_tables.proofs.scan.Goals.{then-met-eq-COVERS, else-met-eq-COVERS}
 

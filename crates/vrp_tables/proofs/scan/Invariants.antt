@@ -1,8 +1,8 @@
 -- `scan` meets its contract, by the laws of a scan at the width handed in. The loop's invariant is that of a scan that has come to `at`.
 use Prim.Native.Nat.{◌-◌}
 use lib.ListN.{length}
-use Rattle.rules.specs.Origin.{prefix_in, vrp_size, told_origin}
-use Rattle.vrp_tables.proofs.Scans.{Scanning, scan_start, scan_end, scan_good, scan_matches, scan_past}
+use Rattle.rules.specs.Origin.{prefix_in, told_origin}
+use Rattle.vrp_tables.proofs.Scans.{Scanning}
 use Rattle.vrp_tables.proofs.scan.Given as goal
 
 abbrev pub invariant-loop-at : goal.invariant-loop-at

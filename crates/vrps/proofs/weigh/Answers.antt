@@ -1,6 +1,5 @@
 -- `weigh` meets its contract.
 use mathlib.Core.Path.{sym, ◌∙◌}
-use borrow.Author.Tests.{not-true, not-false}
 use Rattle.vrps.proofs.Records.{weighed_apart, weighed-matches, weighed-covers}
 use Rattle.vrps.proofs.weigh.Goals as goal
 

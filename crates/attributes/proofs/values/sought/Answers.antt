@@ -1,5 +1,5 @@
 -- `sought` meets its contract: a place that was found stays.
-use borrow.Author.Tests.{not-true, not-false, lt-ltb, le-ltb}
+use borrow.Author.Tests.{lt-ltb, le-ltb}
 use Rattle.attributes.specs.Steps.{first_of}
 use Rattle.attributes.proofs.values.sought.Goals as goal
 

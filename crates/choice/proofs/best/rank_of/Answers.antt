@@ -17,4 +17,4 @@ pub returns-in-3 : goal.returns-in-3
 returns-in-3 c = rank-class _ _ c.if-mode-ne-PRIORITISE.false (rw c.in-3.is refl)
 
 pub returns-in_default : goal.returns-in_default
-returns-in_default c =     rank-class _ _ c.if-mode-ne-PRIORITISE.false (class_last _ (λ z. omega arith) (λ z. omega arith) (λ z. omega arith))
+returns-in_default c = rank-class _ _ c.if-mode-ne-PRIORITISE.false (class_last _ (λ z. omega arith) (λ z. omega arith) (λ z. omega arith))

@@ -1,9 +1,9 @@
 -- `put_left` meets its contract. The loop's invariant: all is stored but what is left from i on.
-use Prim.Native.Nat.{◌-◌, ◌≤◌, ◌+◌}
+use Prim.Native.Nat.{◌-◌, ◌+◌}
 use native.Mathlib.Omega.{arith}
-use lib.ListN.{length, drop, take}
+use lib.ListN.{drop, take}
 use Rattle.rules.specs.Changes.{drop_from}
-use Rattle.octets.proofs.Writing.{Writing, writing_start, writing-rest, writing-room, writing_step, writing-end, writing-length}
+use Rattle.octets.proofs.Writing.{writing_start, writing-rest, writing-room, writing_step, writing-end, writing-length}
 use Rattle.octets.proofs.Slices.{part_length}
 use Rattle.communities.specs.Tags.{drop_test, kept}
 use Rattle.communities.proofs.Dropped.{left_step, left_end}

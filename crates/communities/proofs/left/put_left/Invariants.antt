@@ -1,9 +1,9 @@
 -- `put_left` meets its contract. The loop's invariant: all is stored but what is left from i on.
-use Prim.Native.Nat.{◌-◌, ◌≤◌, ◌+◌}
-use lib.ListN.{length, drop, take}
+use Prim.Native.Nat.{◌-◌, ◌≤◌}
+use lib.ListN.{length, drop}
 use Rattle.rules.specs.Changes.{drop_from}
-use Rattle.octets.proofs.Writing.{Writing, writing_start, writing-rest, writing-room, writing_step, writing-end, writing-length}
-use Rattle.communities.specs.Tags.{drop_test, kept}
+use Rattle.octets.proofs.Writing.{Writing}
+use Rattle.communities.specs.Tags.{drop_test}
 use Rattle.communities.proofs.left.put_left.Given as goal
 
 abbrev pub invariant-loop-i : goal.invariant-loop-i

@@ -1,13 +1,12 @@
 -- `same_left` meets its contract. The loop's invariant: what is left to compare is the same exactly where all is.
 use Prim.Native.Nat.{◌+◌, ◌-◌}
 use mathlib.Core.Path.{◌≡◌, sym, ◌∙◌}
-use mathlib.Core.Bool.{true, false}
+use mathlib.Core.Bool.{false}
 use native.Mathlib.Omega.{arith}
-use borrow.Author.Tests.{not-true, not-false}
-use lib.ListN.{length, take, drop}
+use lib.ListN.{take, drop}
 use Rattle.octets.proofs.Slices.{part_length}
-use Rattle.communities.specs.Tags.{drop_test, tag_bytes}
-use Rattle.communities.proofs.Matched.{Matched, matched_start, matched_end, matched_dropped, matched_short, matched_differs, matched_kept}
+use Rattle.communities.specs.Tags.{drop_test}
+use Rattle.communities.proofs.Matched.{matched_start, matched_end, matched_dropped, matched_short, matched_differs, matched_kept}
 use Rattle.communities.proofs.left.same_left.Goals as goal
 
 pub loop-i-init : goal.loop-i-init

@@ -1,8 +1,8 @@
 -- `same_left` meets its contract. The loop's invariant: what is left to compare is the same exactly where all is.
-use Prim.Native.Nat.{◌+◌, ◌-◌}
-use lib.ListN.{length, take, drop}
+use Prim.Native.Nat.{◌-◌}
+use lib.ListN.{length}
 use Rattle.communities.specs.Tags.{drop_test, tag_bytes}
-use Rattle.communities.proofs.Matched.{Matched, matched_start, matched_end, matched_dropped, matched_short, matched_differs, matched_kept}
+use Rattle.communities.proofs.Matched.{Matched}
 use Rattle.communities.proofs.left.same_left.Given as goal
 
 abbrev pub invariant-loop-i : goal.invariant-loop-i

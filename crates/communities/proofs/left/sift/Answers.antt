@@ -1,10 +1,8 @@
 -- `sift` meets its contract. The loop's invariant: what is found and what there is from i on make up the whole, of both counts.
-use Prim.Native.Nat.{◌+◌, ◌-◌, ◌≤◌}
-use mathlib.Core.Path.{◌≡◌, ap}
+use mathlib.Core.Path.{ap}
 use native.Mathlib.Nat.{zero-add}
 use native.Mathlib.Omega.{arith}
-use lib.ListN.{length, drop}
-use Rattle.rules.specs.Changes.{drop_from, thrown_out}
+use lib.ListN.{length}
 use Rattle.communities.specs.Tags.{drop_test}
 use Rattle.octets.proofs.Slices.{part_length}
 use Rattle.communities.proofs.Dropped.{left-count, left_end}

@@ -1,8 +1,6 @@
 -- `sift_one` meets its contract: kept, thrown out, or a tag that is dropped alone.
 use mathlib.Core.Path.{◌≡◌, sym, ap, ◌∙◌}
-use mathlib.Core.Bool.{true}
 use native.Mathlib.Omega.{arith}
-use borrow.Author.Tests.{not-true, not-false}
 use lib.ListN.{length}
 use Rattle.communities.specs.Tags.{drop_test, kept}
 use Rattle.communities.proofs.Dropped.{kept-none, kept_whole}

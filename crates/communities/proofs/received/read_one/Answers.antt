@@ -1,7 +1,6 @@
 -- `read_one` meets its contract: no tag, a tag above 2, or one that tells a state.
 use mathlib.Core.Path.{sym, ◌∙◌}
 use native.Mathlib.Omega.{arith}
-use borrow.Author.Tests.{not-true, not-false}
 use Rattle.communities.proofs.Tagged.{with-other, with-erroneous, with_tag}
 use Rattle.communities.proofs.Thrown.{other_unthrown, thrown-one, thrown-none}
 use Rattle.communities.proofs.received.read_one.Goals as goal

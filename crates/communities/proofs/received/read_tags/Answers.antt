@@ -1,13 +1,12 @@
 -- `read_tags` meets its contract. The loop's invariant: the state told so far, and the communities from `at` on, give the state; and the
 -- number so far, and that from `at` on, the number.
-use Prim.Native.Nat.{◌+◌, ◌-◌, ◌≤◌}
-use mathlib.Core.Path.{◌≡◌, sym, ap, ◌∙◌}
+use Prim.Native.Nat.{◌+◌}
+use mathlib.Core.Path.{sym, ap, ◌∙◌}
 use mathlib.Core.List.{foldl}
 use native.Mathlib.Nat.{zero-add}
 use native.Mathlib.Omega.{arith}
-use lib.ListN.{length, drop}
-use Rattle.rules.specs.Changes.{communities, thrown_out}
-use Rattle.rules.specs.Origin.{tag_values, tag_state}
+use lib.ListN.{drop}
+use Rattle.rules.specs.Changes.{communities}
 use Rattle.octets.proofs.Slices.{part_length}
 use Rattle.communities.specs.Received.{with_community}
 use Rattle.communities.proofs.Tagged.{tags_start, tags-next, tags-end}
@@ -32,6 +31,6 @@ loop-at-preserved c = let v = c.args.v.now in
 
 pub returns : goal.returns
 returns c = let v = c.args.v.now in (
-      sym (tags-end v c.loop-at.at c.loop-at.tags.state (omega arith)) ∙ c.loop-at.invariant.2,
-      omega (arith, thrown-end v c.loop-at.at (omega arith)),
-    )
+  sym (tags-end v c.loop-at.at c.loop-at.tags.state (omega arith)) ∙ c.loop-at.invariant.2,
+  omega (arith, thrown-end v c.loop-at.at (omega arith)),
+)

@@ -1,6 +1,5 @@
 -- `is_erroneous` meets its contract: a tag, and its last byte above 2.
 use mathlib.Core.Path.{sym, ◌∙◌}
-use borrow.Author.Tests.{not-true, not-false}
 use Rattle.rules.specs.Changes.{is_erroneous}
 use Rattle.communities.proofs.tags.is_erroneous.Goals as goal
 

@@ -1,5 +1,4 @@
 -- `put_field` meets its contract.
-use Prim.Native.Nat.{◌+◌, ◌≤◌}
 use mathlib.Core.Path.{refl}
 use native.Mathlib.Omega.{arith}
 use Rattle.rules.specs.Desk.{shown_number}
@@ -28,6 +27,6 @@ returns-in-Dash c = (rw c.in-Dash.is c.put.ensures, omega (arith, c.put.ensures.
 pub returns-in-Number : goal.returns-in-Number
 unfolding shown_field shown_number
 returns-in-Number c = (
-      rw c.in-Number.is (stored_then (omega (arith, c.requires)) c.put_byte-w.ensures c.put_decimal.ensures),
-      omega (arith, c.put_byte-w.ensures.next, c.put_decimal.ensures.next, decimal-length c.in-Number.n (omega arith)),
-    )
+  rw c.in-Number.is (stored_then (omega (arith, c.requires)) c.put_byte-w.ensures c.put_decimal.ensures),
+  omega (arith, c.put_byte-w.ensures.next, c.put_decimal.ensures.next, decimal-length c.in-Number.n (omega arith)),
+)

@@ -31,8 +31,7 @@ put_result-requires c =
 pub returns-in-Refused : goal.returns-in-Refused
 unfolding replied answer_number shown_result
 returns-in-Refused c =
-    let number-within : c.put_decimal-w.result ≤ c.args.at + 20 = omega (arith, c.put_decimal-w.ensures.next, decimal-length c.refusal_number.result (omega arith)) in
-    (
+    let number-within : c.put_decimal-w.result ≤ c.args.at + 20 = omega (arith, c.put_decimal-w.ensures.next, decimal-length c.refusal_number.result (omega arith)) in (
       rw (c.in-Refused.is, ← c.refusal_number.ensures) (stored_then (omega (arith, c.requires.1)) c.put_decimal-w.ensures c.put.ensures),
       omega (arith, c.put.ensures.next, number-within),
     )
@@ -40,6 +39,6 @@ returns-in-Refused c =
 pub returns-in-Bytes : goal.returns-in-Bytes
 unfolding replied answer_number shown_result decimal decimal_up_to
 returns-in-Bytes c = (
-      rw c.in-Bytes.is (stored_then (omega (arith, c.requires.1)) c.put-w.ensures c.put_result.ensures.0),
-      omega (arith, c.put-w.ensures.next, c.put_result.ensures.1),
-    )
+  rw c.in-Bytes.is (stored_then (omega (arith, c.requires.1)) c.put-w.ensures c.put_result.ensures.0),
+  omega (arith, c.put-w.ensures.next, c.put_result.ensures.1),
+)

@@ -5,7 +5,6 @@ use mathlib.Core.Bool.{true}
 use Prim.Native.Nat.{ℕ, ◌+◌, ◌-◌, ◌/◌, ◌≤◌}
 use native.Mathlib.Omega.{arith}
 use lib.ListN.{length, take, drop, get_or}
-use borrow.Author.Tests.{not-true, not-false}
 use Rattle.rules.specs.Bytes.{one_of, exists}
 use Rattle.rules.specs.Answers.{refused, answer_number, number}
 use Rattle.rules.specs.Settings.{block_max, prefix_length_ok}

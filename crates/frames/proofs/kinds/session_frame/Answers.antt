@@ -1,6 +1,5 @@
 -- `session_frame` meets its contract.
 use mathlib.Core.Path.{sym, ap, ◌∙◌}
-use borrow.Author.Tests.{not-true, not-false}
 use lib.ListN.{get_or}
 use Rattle.rules.specs.Answers.{told_opened}
 use Rattle.rules.specs.Settings.{session_ok}

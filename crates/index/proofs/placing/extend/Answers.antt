@@ -1,10 +1,9 @@
 -- `extend` meets its contract. The invariant: so many nodes are made, each below the one before, and the parts to come give those that are
 -- wanted.
-use Prim.Native.Nat.{◌+◌, ◌-◌, ◌^◌}
+use Prim.Native.Nat.{◌-◌}
 use mathlib.Core.Path.{◌∙◌}
 use native.Mathlib.Omega.{arith}
-use Rattle.vrp_tree.specs.Tree.{leading_bits}
-use Rattle.index.proofs.Ways.{next_bit, Extending, extending_start, extending_next, extending_end}
+use Rattle.index.proofs.Ways.{next_bit, extending_start, extending_next, extending_end}
 use Rattle.index.proofs.placing.extend.Goals as goal
 
 pub loop-made-init : goal.loop-made-init

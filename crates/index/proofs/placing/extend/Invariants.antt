@@ -2,7 +2,7 @@
 -- wanted.
 use Prim.Native.Nat.{◌+◌, ◌-◌, ◌^◌}
 use Rattle.vrp_tree.specs.Tree.{leading_bits}
-use Rattle.index.proofs.Ways.{next_bit, Extending, extending_start, extending_next, extending_end}
+use Rattle.index.proofs.Ways.{Extending}
 use Rattle.index.proofs.placing.extend.Given as goal
 
 abbrev pub invariant-loop-made : goal.invariant-loop-made

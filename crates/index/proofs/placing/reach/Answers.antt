@@ -3,7 +3,7 @@ use Prim.Native.Nat.{◌+◌, ◌-◌, ◌/◌, ◌%◌, ◌^◌}
 use mathlib.Core.Path.{◌≡◌, ◌∙◌}
 use native.Mathlib.Omega.{arith}
 use Rattle.vrp_tree.specs.Tree.{leading_bits}
-use Rattle.index.proofs.Ways.{next_bit, Going, going_start, going_none, going_off, going_next, going_end}
+use Rattle.index.proofs.Ways.{next_bit, going_start, going_none, going_off, going_next, going_end}
 use Rattle.index.proofs.placing.reach.Goals as goal
 
 pub loop-left-init : goal.loop-left-init

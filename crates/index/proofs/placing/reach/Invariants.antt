@@ -1,7 +1,7 @@
 -- `reach` meets its contract. The invariant: the node for the bits gone is there.
-use Prim.Native.Nat.{◌+◌, ◌-◌, ◌/◌, ◌%◌, ◌^◌}
+use Prim.Native.Nat.{◌+◌, ◌^◌}
 use Rattle.vrp_tree.specs.Tree.{leading_bits}
-use Rattle.index.proofs.Ways.{next_bit, Going, going_start, going_none, going_off, going_next, going_end}
+use Rattle.index.proofs.Ways.{Going}
 use Rattle.index.proofs.placing.reach.Given as goal
 
 abbrev pub invariant-loop-left : goal.invariant-loop-left

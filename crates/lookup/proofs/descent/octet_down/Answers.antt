@@ -1,7 +1,5 @@
 -- `octet_down` meets its contract. The invariant: with k bits gone, the look-up from `here` gives what it gave from the node.
-use Prim.Native.Nat.{◌-◌, ◌≤◌, ◌<◌}
 use native.Mathlib.Omega.{arith}
-use Rattle.lookup.specs.Descent.{Descended}
 use Rattle.lookup.proofs.Steps.{descended_start, descended_end, descended_ready, descended_next, descended_none}
 use Rattle.lookup.proofs.descent.octet_down.Goals as goal
 

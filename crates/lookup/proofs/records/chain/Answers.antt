@@ -1,9 +1,6 @@
 -- `chain` meets its contract. The invariant: the records from `cur` on give what all of them give.
-use Prim.Native.Nat.{◌/◌, ◌<◌}
-use mathlib.Core.Path.{◌≡◌, refl, sym, ◌∙◌}
+use mathlib.Core.Path.{refl, sym, ◌∙◌}
 use native.Mathlib.Omega.{arith}
-use lib.ListN.{length}
-use Rattle.lookup.specs.Look.{chain_of}
 use Rattle.lookup.proofs.Descents.{out-zero, out_far, out_in, chain-out, chain-end, chain_hit, chain-on}
 use Rattle.lookup.proofs.records.chain.Goals as goal
 

@@ -1,6 +1,6 @@
 -- `chain` meets its contract. The invariant: the records from `cur` on give what all of them give.
 use Prim.Native.Nat.{◌/◌, ◌<◌}
-use mathlib.Core.Path.{◌≡◌, refl, sym, ◌∙◌}
+use mathlib.Core.Path.{◌≡◌}
 use lib.ListN.{length}
 use Rattle.lookup.specs.Look.{chain_of}
 use Rattle.lookup.proofs.records.chain.Given as goal

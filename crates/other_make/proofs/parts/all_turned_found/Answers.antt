@@ -1,12 +1,10 @@
 -- `all_turned_found` meets its contract. The loop's invariant: so far all are found, and what is to come is the rest.
-use Prim.Native.Nat.{◌+◌, ◌-◌, ◌≤◌}
-use mathlib.Core.Path.{◌≡◌, refl, sym, subst}
+use Prim.Native.Nat.{◌+◌, ◌≤◌}
+use mathlib.Core.Path.{◌≡◌}
 use native.Mathlib.Omega.{arith}
-use lib.ListN.{length, take, drop}
-use Rattle.rules.specs.Attributes.{attribute, attributes}
-use Rattle.attributes.proofs.Sizes.{item-whole, item-least}
-use Rattle.rewriting.specs.Plan.{Whole}
-use Rattle.other_make.proofs.Finds.{Finding, finding_start, finding-fits, finding-leaves, finding_missing, finding-next, finding-end}
+use lib.ListN.{length}
+use Rattle.attributes.proofs.Sizes.{item-whole}
+use Rattle.other_make.proofs.Finds.{finding_start, finding-fits, finding-leaves, finding_missing, finding-next, finding-end}
 use Rattle.other_make.proofs.parts.all_turned_found.Goals as goal
 
 pub loop-at-init : goal.loop-at-init

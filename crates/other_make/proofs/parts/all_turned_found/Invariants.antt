@@ -1,8 +1,8 @@
 -- `all_turned_found` meets its contract. The loop's invariant: so far all are found, and what is to come is the rest.
-use Prim.Native.Nat.{◌+◌, ◌-◌, ◌≤◌}
-use lib.ListN.{length, take, drop}
-use Rattle.rules.specs.Attributes.{attribute, attributes}
-use Rattle.other_make.proofs.Finds.{Finding, finding_start, finding-fits, finding-leaves, finding_missing, finding-next, finding-end}
+use Prim.Native.Nat.{◌-◌}
+use lib.ListN.{length}
+use Rattle.rules.specs.Attributes.{attributes}
+use Rattle.other_make.proofs.Finds.{Finding}
 use Rattle.other_make.proofs.parts.all_turned_found.Given as goal
 
 abbrev pub invariant-loop-at : goal.invariant-loop-at

@@ -1,7 +1,6 @@
 -- `count` meets its contract. The loop's invariant: those passed and those to come are all.
-use Prim.Native.Nat.{◌+◌, ◌-◌}
+use Prim.Native.Nat.{◌+◌}
 use native.Mathlib.Omega.{arith}
-use lib.ListN.{length}
 use Rattle.other_make.proofs.Walks.{Counting, counting_start, counting_torn, counting_next, counting_end}
 use Rattle.other_make.proofs.parts.count.Goals as goal
 

@@ -1,7 +1,7 @@
 -- `count` meets its contract. The loop's invariant: those passed and those to come are all.
-use Prim.Native.Nat.{◌+◌, ◌-◌}
+use Prim.Native.Nat.{◌-◌}
 use lib.ListN.{length}
-use Rattle.other_make.proofs.Walks.{Counting, counting_start, counting_torn, counting_next, counting_end}
+use Rattle.other_make.proofs.Walks.{Counting}
 use Rattle.other_make.proofs.parts.count.Given as goal
 
 abbrev pub invariant-loop-at : goal.invariant-loop-at

@@ -1,10 +1,9 @@
 -- `find` meets its contract. The loop's invariant: the first of the type is to come, or is none.
-use Prim.Native.Nat.{◌+◌, ◌-◌, ◌≤◌}
-use mathlib.Core.Path.{◌≡◌}
+use Prim.Native.Nat.{◌+◌, ◌≤◌}
 use native.Mathlib.Omega.{arith}
 use lib.ListN.{length, drop}
 use Rattle.attributes.proofs.Sizes.{item-least}
-use Rattle.other_make.proofs.Walks.{Seeking, seeking_start, seeking_torn, seeking_found, seeking_next, seeking_end}
+use Rattle.other_make.proofs.Walks.{seeking_start, seeking_torn, seeking_found, seeking_next, seeking_end}
 use Rattle.other_make.proofs.parts.find.Goals as goal
 
 pub returns-then-n-eq0 : goal.returns-then-n-eq0

@@ -1,7 +1,7 @@
 -- `find` meets its contract. The loop's invariant: the first of the type is to come, or is none.
-use Prim.Native.Nat.{◌+◌, ◌-◌, ◌≤◌}
-use lib.ListN.{length, drop}
-use Rattle.other_make.proofs.Walks.{Seeking, seeking_start, seeking_torn, seeking_found, seeking_next, seeking_end}
+use Prim.Native.Nat.{◌-◌}
+use lib.ListN.{length}
+use Rattle.other_make.proofs.Walks.{Seeking}
 use Rattle.other_make.proofs.parts.find.Given as goal
 
 abbrev pub invariant-loop-at : goal.invariant-loop-at

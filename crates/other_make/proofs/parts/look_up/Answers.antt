@@ -1,6 +1,4 @@
 -- `look_up` meets its contract: the attribute found, its flags and its value.
-use mathlib.Core.Path.{◌≡◌}
-use borrow.Author.Tests.{not-true, not-false}
 use Rattle.rules.specs.Attributes.{Attribute}
 use Rattle.other_make.specs.Finding.{compared}
 use Rattle.other_make.proofs.Lookups.{looked-other, looked-whole, looked-value}

@@ -1,6 +1,4 @@
 -- `look_up_left` meets its contract: the communities attribute found, its flags and its value.
-use mathlib.Core.Path.{◌≡◌}
-use borrow.Author.Tests.{not-true, not-false}
 use mathlib.Core.List.{◌++◌}
 use Rattle.rules.specs.Attributes.{Attribute, communities_type}
 use Rattle.rules.specs.Changes.{drop_from}

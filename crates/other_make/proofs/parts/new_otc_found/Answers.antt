@@ -1,5 +1,5 @@
 -- `new_otc_found` meets its contract: no AS, no attribute; else one.
-use mathlib.Core.Path.{◌≡◌, refl, sym, ◌∙◌}
+use mathlib.Core.Path.{refl, ◌∙◌}
 use borrow.Author.Tests.{eq-eqb, ne_eqb}
 use Rattle.rules.specs.Attributes.{attributes, otc_type}
 use Rattle.rules.specs.Bytes.{bytes4}

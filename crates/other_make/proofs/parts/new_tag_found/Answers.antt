@@ -1,13 +1,13 @@
 -- `new_tag_found` meets its contract: communities left or no state, no attribute; else one.
-use mathlib.Core.Path.{◌≡◌, refl, sym, ◌∙◌}
-use mathlib.Core.Bool.{◌&&◌, and-false}
+use mathlib.Core.Path.{refl, ◌∙◌}
+use mathlib.Core.Bool.{and-false}
 use native.Mathlib.Omega.{arith}
-use lib.Dec.{leb, eqb}
+use lib.Dec.{eqb}
 use borrow.Author.Tests.{eq-eqb, ne_eqb, le-leb, lt-leb}
 use Rattle.rules.specs.Attributes.{attributes, communities_type}
 use Rattle.rules.specs.Changes.{tag, new_attribute}
 use Rattle.rules.proofs.Communities.{drop_nil}
-use Rattle.communities.specs.Tags.{drop_test, tag_bytes}
+use Rattle.communities.specs.Tags.{drop_test}
 use Rattle.communities.proofs.Told.{tag-told}
 use Rattle.rewriting.specs.Plan.{new_tags}
 use Rattle.other_make.proofs.Lookups.{looked-form}

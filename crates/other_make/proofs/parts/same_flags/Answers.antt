@@ -1,11 +1,7 @@
 -- `same_flags` meets its contract: no byte has no flags.
-use mathlib.Core.Path.{◌≡◌, refl, sym, ap, ◌∙◌}
-use mathlib.Core.Bool.{Bool, not, ◌&&◌}
+use mathlib.Core.Path.{refl}
 use native.Mathlib.Omega.{arith}
-use lib.Dec.{eqb}
-use lib.ListN.{length, get_or}
 use Rattle.rules.specs.Bytes.{is_empty}
-use Rattle.rules.specs.OtherMake.{flags_apart}
 use Rattle.rules.proofs.Lists.{nil_of_length, is_empty_not}
 use Rattle.other_make.proofs.parts.same_flags.Goals as goal
 

@@ -1,15 +1,8 @@
 -- `turned_found` meets its contract: an attribute that stands as it is, communities of which none is left, and others.
-use mathlib.Core.Path.{◌≡◌, refl, sym, ◌∙◌}
-use mathlib.Core.Bool.{Bool, true, false}
-use mathlib.Core.List.{List, [], ◌∷◌, ◌++◌}
-use Prim.Native.Nat.{◌+◌}
-use native.Mathlib.Omega.{arith}
+use mathlib.Core.Path.{◌≡◌, refl, ◌∙◌}
+use mathlib.Core.Bool.{true, false}
 use borrow.Author.Tests.{eq-eqb, ne_eqb}
 use Rattle.rules.specs.Attributes.{Attribute, attribute, attributes, is_type, communities_type}
-use Rattle.rules.specs.Changes.{drop_from, with_value}
-use Rattle.communities.specs.Tags.{drop_test, tag_bytes}
-use Rattle.rewriting.specs.Plan.{turned}
-use Rattle.other_make.specs.Finding.{FindsFrom, AtMost, looked_up, compared}
 use Rattle.other_make.proofs.Lookups.{looked-form}
 use Rattle.other_make.proofs.Finds.{finds_one, finds_none, looked-other-type, turned-gone, turned_left, looked-left}
 use Rattle.other_make.proofs.parts.turned_found.Goals as goal

@@ -1,6 +1,6 @@
 -- `value_of` meets its contract: the value stands past the header.
-use mathlib.Core.Path.{◌≡◌, refl, ap, ◌∙◌}
-use lib.ListN.{length, drop, get_or}
+use mathlib.Core.Path.{refl, ◌∙◌}
+use lib.ListN.{get_or}
 use lib.Seq.{drop-drop}
 use Rattle.rules.specs.Attributes.{attribute, length_bytes}
 use Rattle.octets.proofs.Slices.{tail_is}

@@ -1,5 +1,5 @@
 -- `with_one` meets its contract, by the flag.
-use mathlib.Core.Path.{◌≡◌, refl}
+use mathlib.Core.Path.{refl}
 use Rattle.other_make.proofs.parts.with_one.Goals as goal
 
 pub returns-then-found : goal.returns-then-found

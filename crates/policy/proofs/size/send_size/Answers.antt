@@ -6,7 +6,6 @@ use Prim.Native.Nat.{ℕ}
 use native.Mathlib.Omega.{arith}
 use lib.Dec.{leb}
 use lib.ListN.{length}
-use borrow.Author.Tests.{not-true, not-false}
 use Rattle.rules.specs.Answers.{done, told_advertised}
 use Rattle.rules.specs.Settings.{block_max}
 use Rattle.rules.specs.Attributes.{attributes}

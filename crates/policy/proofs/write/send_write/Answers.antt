@@ -5,7 +5,6 @@ use mathlib.Core.List.{List}
 use Prim.Native.Nat.{ℕ}
 use lib.Dec.{leb}
 use lib.ListN.{length}
-use borrow.Author.Tests.{not-true, not-false}
 use Rattle.rules.specs.Answers.{told_advertised}
 use Rattle.rules.specs.Settings.{block_max}
 use Rattle.rules.specs.Attributes.{attributes}

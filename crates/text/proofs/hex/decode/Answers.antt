@@ -1,9 +1,9 @@
 -- `decode` meets its contract. The loop's invariant: all is stored but what is spelled from `at` on.
-use Prim.Native.Nat.{◌+◌, ◌-◌, ◌<◌}
+use Prim.Native.Nat.{◌+◌, ◌<◌}
 use native.Mathlib.Omega.{arith}
 use lib.ListN.{length}
 use Rattle.octets.proofs.Writing.{writing-length}
-use Rattle.text.proofs.Spelling.{Decoding, decoding_start, decoding_pair, decoding_room, decoding_step, decoding_end, pair_high, pair_low, pair_none}
+use Rattle.text.proofs.Spelling.{decoding_start, decoding_pair, decoding_room, decoding_step, decoding_end, pair_high, pair_low, pair_none}
 use Rattle.text.proofs.hex.decode.Goals as goal
 
 pub loop-at-init : goal.loop-at-init

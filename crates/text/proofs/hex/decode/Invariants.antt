@@ -1,7 +1,7 @@
 -- `decode` meets its contract. The loop's invariant: all is stored but what is spelled from `at` on.
-use Prim.Native.Nat.{◌+◌, ◌-◌, ◌<◌}
+use Prim.Native.Nat.{◌-◌}
 use lib.ListN.{length}
-use Rattle.text.proofs.Spelling.{Decoding, decoding_start, decoding_pair, decoding_room, decoding_step, decoding_end, pair_high, pair_low, pair_none}
+use Rattle.text.proofs.Spelling.{Decoding}
 use Rattle.text.proofs.hex.decode.Given as goal
 
 abbrev pub invariant-loop-at : goal.invariant-loop-at

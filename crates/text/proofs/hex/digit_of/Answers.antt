@@ -41,19 +41,19 @@ pub returns-then-value-lt16 : goal.returns-then-value-lt16
 returns-then-value-lt16 c =
     let b = c.args.b in (
       elim c.if-b-lt58.branch [
-        then-b-lt58 w ↦
+        | then-b-lt58 w ↦
             elim c.if-b-lt48.branch [
-              then-b-lt48 v ↦ absurd (omega arith)
-            | else-b-lt48 v ↦ w.value-is ∙ v.decimal-is ∙ decimal b v.if-b-lt48.false w.if-b-lt58.true
+              | then-b-lt48 v ↦ absurd (omega arith)
+              | else-b-lt48 v ↦ w.value-is ∙ v.decimal-is ∙ decimal b v.if-b-lt48.false w.if-b-lt58.true
             ]
-      | else-b-lt58 w ↦
+        | else-b-lt58 w ↦
             elim c.if-b-lt97.branch [
-              then-b-lt97 v ↦
+              | then-b-lt97 v ↦
                   elim c.if-b-lt65.branch [
-                    then-b-lt65 u ↦ absurd (omega arith)
-                  | else-b-lt65 u ↦ w.value-is ∙ v.letter-is ∙ u.upper-is ∙ upper b u.if-b-lt65.false (omega arith)
+                    | then-b-lt65 u ↦ absurd (omega arith)
+                    | else-b-lt65 u ↦ w.value-is ∙ v.letter-is ∙ u.upper-is ∙ upper b u.if-b-lt65.false (omega arith)
                   ]
-            | else-b-lt97 v ↦ w.value-is ∙ v.letter-is ∙ lower b v.if-b-lt97.false (omega arith)
+              | else-b-lt97 v ↦ w.value-is ∙ v.letter-is ∙ lower b v.if-b-lt97.false (omega arith)
             ]
       ],
       omega arith,
@@ -63,19 +63,19 @@ pub returns-else-value-lt16 : goal.returns-else-value-lt16
 returns-else-value-lt16 c =
     let b = c.args.b in (
       elim c.if-b-lt58.branch [
-        then-b-lt58 w ↦
+        | then-b-lt58 w ↦
             elim c.if-b-lt48.branch [
-              then-b-lt48 v ↦ below-decimal b v.if-b-lt48.true
-            | else-b-lt48 v ↦ absurd (omega arith)
+              | then-b-lt48 v ↦ below-decimal b v.if-b-lt48.true
+              | else-b-lt48 v ↦ absurd (omega arith)
             ]
-      | else-b-lt58 w ↦
+        | else-b-lt58 w ↦
             elim c.if-b-lt97.branch [
-              then-b-lt97 v ↦
+              | then-b-lt97 v ↦
                   elim c.if-b-lt65.branch [
-                    then-b-lt65 u ↦ below-upper b w.if-b-lt58.false u.if-b-lt65.true
-                  | else-b-lt65 u ↦ below-lower b (omega arith) v.if-b-lt97.true
+                    | then-b-lt65 u ↦ below-upper b w.if-b-lt58.false u.if-b-lt65.true
+                    | else-b-lt65 u ↦ below-lower b (omega arith) v.if-b-lt97.true
                   ]
-            | else-b-lt97 v ↦ above_lower b (omega arith)
+              | else-b-lt97 v ↦ above_lower b (omega arith)
             ]
       ],
       omega arith,

@@ -1,11 +1,11 @@
 -- `put_hex` meets its contract. The loop's invariant: all is stored but the digits of the bytes from i on.
-use Prim.Native.Nat.{◌+◌, ◌-◌, ◌≤◌, ◌%◌}
+use Prim.Native.Nat.{◌+◌, ◌%◌}
 use mathlib.Core.Path.{refl}
 use mathlib.Core.List.{[], ◌∷◌, ◌++◌}
 use native.Mathlib.Omega.{arith}
-use lib.ListN.{length, drop, get_or}
+use lib.ListN.{drop, get_or}
 use Rattle.rules.specs.Text.{to_hex, upper_digit}
-use Rattle.octets.proofs.Writing.{Writing, writing_start, writing-rest, writing-room, writing_step, writing-end, writing-length}
+use Rattle.octets.proofs.Writing.{writing_start, writing-rest, writing-room, writing_step, writing-end, writing-length}
 use Rattle.text.proofs.Spelling.{hex-length, hex-next, hex-end}
 use Rattle.text.proofs.hex.put_hex.Goals as goal
 

@@ -1,8 +1,8 @@
 -- `put_hex` meets its contract. The loop's invariant: all is stored but the digits of the bytes from i on.
-use Prim.Native.Nat.{◌+◌, ◌-◌, ◌≤◌, ◌%◌}
-use lib.ListN.{length, drop, get_or}
-use Rattle.rules.specs.Text.{to_hex, upper_digit}
-use Rattle.octets.proofs.Writing.{Writing, writing_start, writing-rest, writing-room, writing_step, writing-end, writing-length}
+use Prim.Native.Nat.{◌-◌, ◌≤◌}
+use lib.ListN.{length, drop}
+use Rattle.rules.specs.Text.{to_hex}
+use Rattle.octets.proofs.Writing.{Writing}
 use Rattle.text.proofs.hex.put_hex.Given as goal
 
 abbrev pub invariant-loop-i : goal.invariant-loop-i

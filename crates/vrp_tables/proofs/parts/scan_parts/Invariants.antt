@@ -1,9 +1,9 @@
 -- `scan_parts` meets its contract, by the law of the state over parts. The loop's invariant is that of a scan over parts that has come to
 -- `at`.
-use Prim.Native.Nat.{◌-◌, ◌*◌}
+use Prim.Native.Nat.{◌-◌}
 use lib.ListN.{length}
-use Rattle.rules.specs.Origin.{prefix_in, vrp_size, told_origin}
-use Rattle.vrp_tables.proofs.Parting.{Parted, parted_start, parted_end, parted_good, parted_valid, parted_found, parted_other}
+use Rattle.rules.specs.Origin.{prefix_in, told_origin}
+use Rattle.vrp_tables.proofs.Parting.{Parted}
 use Rattle.vrp_tables.proofs.parts.scan_parts.Given as goal
 
 abbrev pub invariant-loop-at : goal.invariant-loop-at

@@ -1,6 +1,6 @@
 -- `same_prefix` meets its contract. The loop's invariant is that of a walk that has come to word k.
 use native.Mathlib.Omega.{arith}
-use Rattle.vrps.proofs.Words.{Walked, walked_start, walked-room, walked_differs, walked_next, walked_last}
+use Rattle.vrps.proofs.Words.{walked_start, walked-room, walked_differs, walked_next, walked_last}
 use Rattle.vrps.proofs.prefixes.same_prefix.Goals as goal
 
 pub loop-left-init : goal.loop-left-init

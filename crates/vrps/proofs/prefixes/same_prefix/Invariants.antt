@@ -1,5 +1,5 @@
 -- `same_prefix` meets its contract. The loop's invariant is that of a walk that has come to word k.
-use Rattle.vrps.proofs.Words.{Walked, walked_start, walked-room, walked_differs, walked_next, walked_last}
+use Rattle.vrps.proofs.Words.{Walked}
 use Rattle.vrps.proofs.prefixes.same_prefix.Given as goal
 
 abbrev pub invariant-loop-left : goal.invariant-loop-left
