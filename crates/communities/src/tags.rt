@@ -82,7 +82,7 @@ pub fn put_tag(state: u8, out: &mut [u8], at: usize) -> usize
 pub fn same_tag(state: u8, t: &[u8]) -> bool
     ensures { result ≡ same_bytes (tag_bytes state) t.now }
 {
-    if INVALID < state {
+    if state > INVALID {
         return t.len() == 0;
     }
     let bytes = [TAG_TYPE, TAG_SUBTYPE, 0, 0, 0, 0, 0, state];
