@@ -68,11 +68,8 @@ if [ $# -eq 1 ]; then
 fi
 
 top=$(CDPATH='' cd -- "$(dirname -- "$0")" && pwd)
-desk=$top/target/bin/desk
-if [ ! -x "$desk" ] || [ -n "$(find "$top/crates" -type f -newer "$desk" | head -n 1)" ]; then
-    # shellcheck source=build.sh
-    . "$top/build.sh"
-    build "$desk" rt check desk
-fi
+# shellcheck source=build.sh
+. "$top/build.sh"
+build_desk
 [ $# -eq 0 ] || exec <"$1"
 exec "$desk"

@@ -14,12 +14,9 @@ if [ $# -ne 1 ] || [ -z "$1" ] || [ "${1#-}" != "$1" ]; then
 fi
 
 top=$(CDPATH='' cd -- "$(dirname -- "$0")" && pwd)
-library=$top/target/staticlib/libc_api.a
-if [ ! -f "$library" ] || [ -n "$(find "$top/crates" -type f -newer "$library" | head -n 1)" ]; then
-    # shellcheck source=build.sh
-    . "$top/build.sh"
-    build "$library" rt staticlib c_api
-fi
+# shellcheck source=build.sh
+. "$top/build.sh"
+build_library
 
 case $1 in
 /*) prefix=$1 ;;

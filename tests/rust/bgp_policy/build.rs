@@ -19,7 +19,7 @@ fn main() {
     }
     eprintln!(
         "{} has no libbgp_policy.a and no libc_api.a: set BGP_POLICY_LIB to the library's folder, \
-         or run `rt staticlib c_api` at the repository's top",
+         or run `bash .ci/build` at the repository's top",
         folder.display()
     );
     std::process::exit(1);

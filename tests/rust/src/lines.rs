@@ -7,9 +7,15 @@ use std::path::{Path, PathBuf};
 /// The result of a line: nothing, or how it differs.
 pub type Compared = Result<(), String>;
 
-/// The folder of the vectors of all functions but the index.
-pub fn folder() -> PathBuf {
-    Path::new(env!("CARGO_MANIFEST_DIR")).join("../vectors/Q-12")
+/// The folders of the vectors of all functions but the index.
+pub fn folders() -> [PathBuf; 2] {
+    ["../vectors/Q-06", "../vectors/Q-12"].map(|name| Path::new(env!("CARGO_MANIFEST_DIR")).join(name))
+}
+
+// The folder's name and the file's, for a message.
+fn name(folder: &Path, file: &str) -> String {
+    let last = folder.file_name().unwrap_or_default();
+    format!("{}/{file}", last.to_string_lossy())
 }
 
 /// The folder of the vectors of the index.
@@ -22,38 +28,44 @@ pub fn text(path: &Path) -> String {
     std::fs::read_to_string(path).unwrap_or_else(|e| panic!("{}: {e}", path.display()))
 }
 
-/// Every line of every table in the folder is of one of these kinds, each named with its file.
+/// Every line of every table in the folders is of one of these kinds, each named with its file.
 pub fn all_run(kinds: &[(&str, &str)]) {
-    let entries = std::fs::read_dir(folder()).expect("the folder of the vectors");
-    let names = entries.map(|entry| entry.expect("a name").file_name());
-    let names = names.map(|name| name.into_string().expect("a name in letters"));
-    for file in names.filter(|name| name.ends_with(".tsv")) {
-        for (number, line) in text(&folder().join(&file)).lines().enumerate() {
-            let kind = line.split('\t').next().unwrap_or_default();
-            let run = kinds.contains(&(&file, kind));
-            assert!(
-                run,
-                "{file}:{}: '{kind}' is no kind that is run",
-                number + 1
-            );
+    for folder in folders() {
+        let entries = std::fs::read_dir(&folder).expect("a folder of the vectors");
+        let names = entries.map(|entry| entry.expect("a name").file_name());
+        let names = names.map(|name| name.into_string().expect("a name in letters"));
+        for file in names.filter(|name| name.ends_with(".tsv")) {
+            for (number, line) in text(&folder.join(&file)).lines().enumerate() {
+                let kind = line.split('\t').next().unwrap_or_default();
+                let run = kinds.contains(&(&file, kind));
+                assert!(
+                    run,
+                    "{}:{}: '{kind}' is no kind that is run",
+                    name(&folder, &file),
+                    number + 1
+                );
+            }
         }
     }
 }
 
-/// The lines of one kind in one file, each handed to `compare` as its fields after the kind, with each implementation. All
+/// The lines of one kind in the files of one name, each handed to `compare` as its fields after the kind, with each implementation. All
 /// differing lines are told.
 pub fn every(file: &str, kind: &str, compare: fn(&Side, &[&str]) -> Compared) {
     let mut ran = 0;
     let mut differing = Vec::new();
-    for (number, line) in text(&folder().join(file)).lines().enumerate() {
-        let fields: Vec<&str> = line.split('\t').collect();
-        if fields[0] != kind {
-            continue;
-        }
-        ran += 1;
-        for side in SIDES {
-            if let Err(how) = compare(&side, &fields[1..]) {
-                differing.push(format!("{file}:{}: {}: {how}", number + 1, side.name));
+    for folder in folders() {
+        let table = name(&folder, file);
+        for (number, line) in text(&folder.join(file)).lines().enumerate() {
+            let fields: Vec<&str> = line.split('\t').collect();
+            if fields[0] != kind {
+                continue;
+            }
+            ran += 1;
+            for side in SIDES {
+                if let Err(how) = compare(&side, &fields[1..]) {
+                    differing.push(format!("{table}:{}: {}: {how}", number + 1, side.name));
+                }
             }
         }
     }

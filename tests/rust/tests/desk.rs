@@ -1,6 +1,6 @@
 //! The desk program prints for seeded line streams what the reference and fast Rust print, however the input comes in pieces.
 use policy_tests::generate::Random;
-use policy_tests::lines::folder;
+use policy_tests::lines::folders;
 use policy_tests::stream::{stream, vrps};
 use policy_tests::{desk_program, fast, reference};
 use std::collections::BTreeMap;
@@ -149,10 +149,12 @@ fn short_inputs_agree() {
 
 #[test]
 fn the_vectors_agree() {
-    let read = |name: &str| std::fs::read(folder().join(name)).expect(name);
-    let (input, output) = (read("desk.in"), read("desk.out"));
-    let got = agree("desk.in", &input);
-    assert!(got == output, "the desks differ from desk.out");
+    for folder in folders() {
+        let read = |name: &str| std::fs::read(folder.join(name)).expect(name);
+        let (input, output) = (read("desk.in"), read("desk.out"));
+        let got = agree("desk.in", &input);
+        assert!(got == output, "the desks differ from desk.out");
+    }
 }
 
 // An input cut into pieces of up to `most` bytes.

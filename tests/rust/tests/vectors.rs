@@ -1,4 +1,4 @@
-//! Every line of ../vectors/Q-12 but the desk's, through the library, the reference and fast Rust: the answer, the number beside it,
+//! Every line of ../vectors/Q-06 and Q-12 but the desk's, through the library, the reference and fast Rust: the answer, the number beside it,
 //! and the output buffer to its end.
 use bgp_policy::{table, Candidate, Offer, Session};
 use policy_tests::chain::{end, run, Call, End, Hop};
