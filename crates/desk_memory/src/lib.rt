@@ -80,7 +80,8 @@ pub fn answer_frame(kept: Kept, tables: &[u8], frame: &[u8], made: &mut [u8]) ->
         let table = &tables[TABLE_MAX..TABLE_MAX + used6];
         return receipt_frame(IPV6, session, table, frame, made);
     }
-    if kind == SENDING {
+    let sends = kind == SENDING;
+    if sends {
         return plain(sending_frame(session, frame, made));
     }
     unreadable_frame(kind)

@@ -13,7 +13,8 @@ pub const NODE: usize = 4;
 fn allows(len: usize, asn: u32, most: usize, owner: u32) -> bool
     ensures { result ≡ allowed len asn most owner }
 {
-    if most < len {
+    let longer = most < len;
+    if longer {
         return false;
     }
     if owner == 0 {

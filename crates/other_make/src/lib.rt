@@ -56,7 +56,8 @@ fn compare(block: &[u8], layout: Layout, flags: u8, tag: u8, asn: u32, sent: &[u
 {
     let left = sift(ALL_TAGS, value(block, layout.communities)).left;
     let plan = make_plan(block, layout, left, ALL_TAGS, flags, tag, asn);
-    if BLOCK_MAX < plan.size {
+    let most = BLOCK_MAX;
+    if most < plan.size {
         return SentCheck::Refused(Refusal::NoRoom);
     }
     let found = all_found(block, layout, left, flags, tag, asn, sent);

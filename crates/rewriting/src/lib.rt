@@ -49,7 +49,8 @@ pub fn store(
     if out.len() < size {
         return Output::Full;
     }
-    if BLOCK_MAX < size {
+    let most = BLOCK_MAX;
+    if most < size {
         return Output::Full;
     }
     Output::Bytes {

@@ -39,11 +39,11 @@ bounds-a-1 c =
     let size : c.fit_attribute-n.result ≡ fit attribute_size (drop c.loop-at.at bytes) = fit-here attribute_size bytes c.loop-at.at c.fit_attribute-n.ensures in
     rw part-is (omega (arith, item-length (drop c.loop-at.at bytes) size c.if-n-eq0.false, item-least (drop c.loop-at.at bytes) size c.if-n-eq0.false))
 
-pub returns-then-seen-k-ne0 : goal.returns-then-seen-k-ne0
-returns-then-seen-k-ne0 c =
+pub returns-then-earlier-ne0 : goal.returns-then-earlier-ne0
+returns-then-earlier-ne0 c =
     let bytes : List ℕ = c.args.block.now in
     let size : c.fit_attribute-n.result ≡ fit attribute_size (drop c.loop-at.at bytes) = fit-here attribute_size bytes c.loop-at.at c.fit_attribute-n.ensures in
-    walk_repeated c.loop-at.invariant size c.if-n-eq0.false c.wide-k.ensures.0 c.wide-k.ensures.1 c.if-seen-k-ne0.true
+    walk_repeated c.loop-at.invariant size c.if-n-eq0.false c.wide-k.ensures.0 c.wide-k.ensures.1 c.if-earlier-ne0.true
 
 pub note-noted-requires : goal.note-noted-requires
 note-noted-requires c =
@@ -55,7 +55,7 @@ pub returns-then-fault-ne0 : goal.returns-then-fault-ne0
 returns-then-fault-ne0 c =
     let bytes : List ℕ = c.args.block.now in
     let size : c.fit_attribute-n.result ≡ fit attribute_size (drop c.loop-at.at bytes) = fit-here attribute_size bytes c.loop-at.at c.fit_attribute-n.ensures in
-    walk_own c.loop-at.invariant size c.if-n-eq0.false c.wide-k.ensures.0 c.wide-k.ensures.1 c.if-seen-k-ne0.false c.note-noted.ensures.0 c.if-fault-ne0.true
+    walk_own c.loop-at.invariant size c.if-n-eq0.false c.wide-k.ensures.0 c.wide-k.ensures.1 c.if-earlier-ne0.false c.note-noted.ensures.0 c.if-fault-ne0.true
 
 pub overflow_add-at : goal.overflow_add-at
 overflow_add-at c =
@@ -75,7 +75,7 @@ loop-at-preserved c =
     let bytes : List ℕ = c.args.block.now in
     let size : c.fit_attribute-n.result ≡ fit attribute_size (drop c.loop-at.at bytes) = fit-here attribute_size bytes c.loop-at.at c.fit_attribute-n.ensures in
     let fits : c.loop-at.at + c.fit_attribute-n.result ≤ length bytes = fit-room attribute_size bytes c.loop-at.at c.fit_attribute-n.ensures c.loop-at.invariant.within in
-    walk_on c.loop-at.invariant size c.if-n-eq0.false c.wide-k.ensures.0 c.wide-k.ensures.1 c.if-seen-k-ne0.false c.note-noted.ensures.0 c.if-fault-ne0.false fits c.note-noted.ensures.1
+    walk_on c.loop-at.invariant size c.if-n-eq0.false c.wide-k.ensures.0 c.wide-k.ensures.1 c.if-earlier-ne0.false c.note-noted.ensures.0 c.if-fault-ne0.false fits c.note-noted.ensures.1
 
 pub returns-then-seen-eq0 : goal.returns-then-seen-eq0
 returns-then-seen-eq0 c = walk_no-origin c.loop-at.invariant c.loop-at-test.false c.if-seen-eq0.true

@@ -50,10 +50,10 @@ returns-then-kind-eq-RECEIPT6 c = let a = c.args in
     rw (frame_receipt6 a.kept a.tables.now a.frame.now (not-false _ c.if-not-kept.false) e, ← lent_6 c.requires.1)
     (tells_receipt6 a.frame.now e c.receipt_frame-then-kind-eq-RECEIPT6.ensures)
 
-pub returns-then-kind-eq-SENDING : goal.returns-then-kind-eq-SENDING
-returns-then-kind-eq-SENDING c = let a = c.args in
-    rw (c.plain-then-kind-eq-SENDING.ensures, frame_sending a.kept a.tables.now a.frame.now (not-false _ c.if-not-kept.false) c.if-kind-eq-SENDING.true) (tells_plain a.frame.now 3 c.if-kind-eq-SENDING.true refl refl c.sending_frame.ensures)
+pub returns-then-sends : goal.returns-then-sends
+returns-then-sends c = let a = c.args in
+    rw (c.plain-then-sends.ensures, frame_sending a.kept a.tables.now a.frame.now (not-false _ c.if-not-kept.false) c.if-sends.true) (tells_plain a.frame.now 3 c.if-sends.true refl refl c.sending_frame.ensures)
 
 pub returns : goal.returns
 returns c = let a = c.args in
-    rw c.unreadable_frame-2.ensures (tells_unreadable a.frame.now (frame_unknown a.kept a.tables.now a.frame.now c.if-kind-eq-SESSION.false c.if-kind-eq-VRP.false c.if-kind-eq-VRP6.false c.if-kind-eq-RECEIPT.false c.if-kind-eq-SENDING.false c.if-kind-eq-RECEIPT6.false))
+    rw c.unreadable_frame-2.ensures (tells_unreadable a.frame.now (frame_unknown a.kept a.tables.now a.frame.now c.if-kind-eq-SESSION.false c.if-kind-eq-VRP.false c.if-kind-eq-VRP6.false c.if-kind-eq-RECEIPT.false c.if-sends.false c.if-kind-eq-RECEIPT6.false))

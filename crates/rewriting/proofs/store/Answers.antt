@@ -19,13 +19,13 @@ returns-then-out-size c =
     let q = stands_size p in
     (no_room_lem made c.args.out.now (omega (arith, q, c.if-out-size.true)), tt)
 
-pub returns-then-size-gt-BLOCK_MAX : goal.returns-then-size-gt-BLOCK_MAX
+pub returns-then-most-size : goal.returns-then-most-size
 unfolding told_output
-returns-then-size-gt-BLOCK_MAX c =
+returns-then-most-size c =
     let made : List Attribute = outgoing c.args.test c.args.flags c.args.tag c.args.asn c.args.block.now in
     let p = c.make_plan-plan.ensures in
     let q = stands_size p in
-    (too_long_lem made c.args.out.now (omega (arith, q, c.if-out-size.false)) (omega (arith, q, c.if-size-gt-BLOCK_MAX.true)), tt)
+    (too_long_lem made c.args.out.now (omega (arith, q, c.if-out-size.false)) (omega (arith, q, c.if-most-size.true)), tt)
 
 pub returns : goal.returns
 unfolding told_output
@@ -33,6 +33,6 @@ returns c =
     let made : List Attribute = outgoing c.args.test c.args.flags c.args.tag c.args.asn c.args.block.now in
     let p = c.make_plan-plan.ensures in
     let q = stands_size p in (
-      stored-whole made c.args.out.now (omega (arith, q, c.if-out-size.false)) (omega (arith, q, c.if-size-gt-BLOCK_MAX.false)) (rw p.is at c.write.ensures),
+      stored-whole made c.args.out.now (omega (arith, q, c.if-out-size.false)) (omega (arith, q, c.if-most-size.false)) (rw p.is at c.write.ensures),
       thrown-found c.requires c.value.ensures c.sift-sifted.ensures.1,
     )
