@@ -3,7 +3,7 @@
 
 # stale RESULT: whether RESULT is missing or older than a source.
 stale() {
-    [ ! -f "$1" ] || [ -n "$(find "$top/crates" "$top/crates.txt" -type f -not -path '*/out/*' -newer "$1" | head -n 1)" ]
+    [ ! -f "$1" ] || [ -n "$(find "$top/crates" "$top/crates.txt" -type f -not -path "$top/crates/*/out/*" -newer "$1" | head -n 1)" ]
 }
 
 # build VERB CRATE FILE RESULT: lets `rt VERB` prove the crate and make its FILE, which then stands as RESULT. Each crate that is checked is
@@ -29,5 +29,5 @@ build() {
 # The two things that are built: the desk, and the library for C.
 desk=$top/target/bin/desk
 library=$top/target/staticlib/libc_api.a
-build_desk() { if stale "$desk"; then build run desk desk "$desk"; fi; }
-build_library() { if stale "$library"; then build lib c_api libc_api.a "$library"; fi; }
+build_desk() { build run desk desk "$desk"; }
+build_library() { build lib c_api libc_api.a "$library"; }

@@ -70,6 +70,6 @@ fi
 top=$(CDPATH='' cd -- "$(dirname -- "$0")" && pwd)
 # shellcheck source=build.sh
 . "$top/build.sh"
-build_desk
+if [ ! -x "$desk" ] || stale "$desk"; then build_desk; fi
 [ $# -eq 0 ] || exec <"$1"
 exec "$desk"

@@ -16,7 +16,7 @@ fi
 top=$(CDPATH='' cd -- "$(dirname -- "$0")" && pwd)
 # shellcheck source=build.sh
 . "$top/build.sh"
-build_library
+if stale "$library"; then build_library; fi
 
 case $1 in
 /*) prefix=$1 ;;

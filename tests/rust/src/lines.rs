@@ -56,6 +56,7 @@ pub fn every(file: &str, kind: &str, compare: fn(&Side, &[&str]) -> Compared) {
     let mut differing = Vec::new();
     for folder in folders() {
         let table = name(&folder, file);
+        let before = ran;
         for (number, line) in text(&folder.join(file)).lines().enumerate() {
             let fields: Vec<&str> = line.split('\t').collect();
             if fields[0] != kind {
@@ -68,13 +69,15 @@ pub fn every(file: &str, kind: &str, compare: fn(&Side, &[&str]) -> Compared) {
                 }
             }
         }
+        // the check of what another make sent came with the second folder
+        let expected = kind != "allowed" || folder.ends_with("Q-12");
+        assert!(ran > before || !expected, "{table} has no line of kind {kind}");
     }
     println!(
         "{file}: {ran} lines of kind {kind} at {} implementations, {} differ",
         SIDES.len(),
         differing.len()
     );
-    assert!(ran > 0, "{file} has no line of kind {kind}");
     assert!(
         differing.is_empty(),
         "{} results differ:\n{}",
