@@ -9,7 +9,8 @@ pub type Compared = Result<(), String>;
 
 /// The folders of the vectors of all functions but the index.
 pub fn folders() -> [PathBuf; 2] {
-    ["../vectors/Q-06", "../vectors/Q-12"].map(|name| Path::new(env!("CARGO_MANIFEST_DIR")).join(name))
+    ["../vectors/Q-06", "../vectors/Q-12"]
+        .map(|name| Path::new(env!("CARGO_MANIFEST_DIR")).join(name))
 }
 
 // The folder's name and the file's, for a message.
@@ -71,7 +72,10 @@ pub fn every(file: &str, kind: &str, compare: fn(&Side, &[&str]) -> Compared) {
         }
         // the check of what another make sent came with the second folder
         let expected = kind != "allowed" || folder.ends_with("Q-12");
-        assert!(ran > before || !expected, "{table} has no line of kind {kind}");
+        assert!(
+            ran > before || !expected,
+            "{table} has no line of kind {kind}"
+        );
     }
     println!(
         "{file}: {ran} lines of kind {kind} at {} implementations, {} differ",
