@@ -1,29 +1,32 @@
 // AS_PATH: segments of a type, a count and that many four-byte ASNs (RFC 4271 section 4.3; 01, "Reading an attribute block").
 #![tactic(auto)]
 
-ghost use Rattle.std.specs.Prelude.{◌≡◌, [], ◌∷◌, ◌≤◌, length, leb};
-ghost use Rattle.rules.specs.Rows.{fit};
+ghost use Rattle.std.specs.Prelude.{◌≡◌, [], ◌∷◌, ◌≤◌, ◌<◌, length, leb, MatchOption};
 ghost use Rattle.rules.specs.Bytes.{every};
 ghost use Rattle.rules.specs.Attributes.{segment_size, segment_ok, segments, as_path_ok, asns};
 ghost use Rattle.rules.specs.Origin.{origin_in, final_origin, told_origin};
 ghost use Rattle.rules.specs.Choice.{path_length};
+ghost use Rattle.as_path.specs.Splitting.{Split};
 
-use octets::{fit_size, number4, wide};
-use rules::Origin;
+use octets::{number4, wide};
 
 // Segment types (RFC 4271 section 4.3).
 const AS_SET: u8 = 1;
 
 const AS_SEQUENCE: u8 = 2;
 
-// The size of the segment that `s` begins with, or 0 where `s` is too short for it.
-fn fit_segment(s: &[u8]) -> usize
-    ensures { result ≡ fit segment_size s.now }
+// The segment that a path begins with, and the path after it; none where the path is too short for one.
+fn split_segment(path: &[u8]) -> Option<(&[u8], &[u8])>
+    ensures { MatchOption result (length path.now < segment_size path.now) (λ parts. Split path.now parts.0.now parts.1.now) }
 {
-    if s.len() < 2 {
-        return 0;
+    if path.len() < 2 {
+        return None;
     }
-    fit_size(2 + 4 * wide(s[1]), s.len())
+    let size = 2 + 4 * wide(path[1]);
+    if path.len() < size {
+        return None;
+    }
+    Some(path.split_at(size))
 }
 
 // No ASN of a segment is 0. Internal.
@@ -31,12 +34,10 @@ fn asns_ok(g: &[u8]) -> bool
     requires { 2 ≤ length g.now }
     ensures { result ≡ every (leb 1) (asns g.now) }
 {
-    let mut at = 2;
-    while 4 <= g.len() - at {
-        if number4(&g[at..at + 4]) < 1 {
+    for asn in g[2..].chunks_exact(4) {
+        if number4(asn) < 1 {
             return false;
         }
-        at += 4;
     }
     true
 }
@@ -62,16 +63,15 @@ fn segment_ok(g: &[u8]) -> bool
 pub fn as_path_ok(path: &[u8]) -> bool
     ensures { result ≡ as_path_ok path.now }
 {
-    let mut at = 0;
-    while at < path.len() {
-        let n = fit_segment(&path[at..]);
-        if n == 0 {
+    let mut rest = path;
+    while !rest.is_empty() {
+        let Some((segment, after)) = split_segment(rest) else {
+            return false;
+        };
+        if !segment_ok(segment) {
             return false;
         }
-        if !segment_ok(&path[at..at + n]) {
-            return false;
-        }
-        at += n;
+        rest = after;
     }
     true
 }
@@ -92,46 +92,38 @@ pub fn path_length(path: &[u8]) -> usize
     ensures { result ≡ path_length (segments path.now) }
 {
     let mut total = 0;
-    let mut at = 0;
-    while at < path.len() {
-        let n = fit_segment(&path[at..]);
-        if n == 0 {
-            return total;
-        }
-        total += segment_length(&path[at..at + n]);
-        at += n;
+    let mut rest = path;
+    while let Some((segment, after)) = split_segment(rest) {
+        total += segment_length(segment);
+        rest = after;
     }
     total
 }
 
 // The origin that a path has by its final segment. Internal.
-fn final_origin(g: &[u8]) -> Origin
+fn final_origin(g: &[u8]) -> Option<u32>
     requires { length g.now ≡ segment_size g.now }
     ensures { told_origin result ≡ final_origin g.now }
 {
     if g[0] != AS_SEQUENCE {
-        return Origin::NoAs;
+        return None;
     }
     if g.len() < 6 {
-        return Origin::As(0);
+        return Some(0);
     }
     let last = g.len() - 4;
-    Origin::As(number4(&g[last..]))
+    Some(number4(&g[last..]))
 }
 
 // The origin of a path: the last ASN of a final sequence, none for a final set, the caller's own AS for an empty path.
-pub fn path_origin(path: &[u8], own: u32) -> Origin
+pub fn path_origin(path: &[u8], own: u32) -> Option<u32>
     ensures { told_origin result ≡ origin_in own (segments path.now) }
 {
-    let mut origin = Origin::As(own);
-    let mut at = 0;
-    while at < path.len() {
-        let n = fit_segment(&path[at..]);
-        if n == 0 {
-            return origin;
-        }
-        origin = final_origin(&path[at..at + n]);
-        at += n;
+    let mut origin = Some(own);
+    let mut rest = path;
+    while let Some((segment, after)) = split_segment(rest) {
+        origin = final_origin(segment);
+        rest = after;
     }
     origin
 }

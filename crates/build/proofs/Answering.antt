@@ -2,11 +2,13 @@
 use mathlib.Core.Path.{◌≡◌, refl, sym}
 use mathlib.Core.Logic.{⊎_elim}
 use mathlib.Core.Bool.{Bool, true, false}
-use mathlib.Core.List.{List, [], ◌∷◌}
-use Prim.Native.Nat.{ℕ, zero, suc, ◌+◌, ◌-◌, ◌≤◌, ◌<◌}
+use mathlib.Core.List.{List, [], ◌∷◌, ◌++◌}
+use Prim.Native.Nat.{ℕ, zero, suc, ◌≤◌, ◌<◌}
 use native.Mathlib.Omega.{arith}
 use lib.Dec.{ltb}
-use lib.ListN.{length, take, drop, replicate}
+use lib.ListN.{length, take, drop, replicate, length-drop, take-append-drop}
+use lib.Seq.{length-take-le}
+use Rattle.std.specs.Prelude.{Option, Some, None}
 use Rattle.rules.specs.Answers.{done, refused, ◌when◌, answer, order, first, number}
 use Rattle.rules.specs.Settings.{vrps_max}
 use Rattle.rules.specs.Origin.{Vrp, vrps, vrp_size, table_checks}
@@ -16,11 +18,10 @@ use Rattle.rules.specs.declared.Refusal.TheVariants.{BadLength, BadVrp, NoRoom}
 use Rattle.rules.proofs.Answers.{Passed, answer-done}
 use Rattle.octets.specs.Numbers.{Octets}
 use Rattle.octets.proofs.Numbers.{octets_take, octets_drop}
-use Rattle.octets.proofs.Slices.{part_length}
 use Rattle.vrps.specs.Widths.{Whole}
 use Rattle.vrp_tables.specs.Scan.{GoodTable}
 use Rattle.vrp_tables.specs.Table.{table_check}
-use Rattle.vrp_tables.proofs.Scans.{vrps-next, vrps-end, good-next}
+use Rattle.vrp_tables.proofs.Scans.{size_pos, vrps-short, vrps-next, good-next}
 use Rattle.vrp_tree.specs.Tree.{turned, newest}
 use Rattle.vrp_tree.specs.Memory.{Holds}
 use Rattle.vrp_tree.proofs.Numbers.{lt_or_ge}
@@ -31,21 +32,24 @@ use Rattle.build.specs.Filling.{Filled}
 
 -- ## The records of a table with no bad one fit their width
 
-module _ {w : ℕ} (whole : Whole w) (table : List ℕ) (o : Octets table) where
-  fit-from : (fuel at : ℕ) → length table - at < fuel → GoodTable w (drop at table) → {vs : List Vrp} → Fit w vs → Fit w (turned (vrps w (drop at table)) vs)
-  unfolding turned vrp_size
-  fit-from zero at l g f = absurd (omega arith)
-  fit-from (suc fuel) at l g f = ⊎_elim
-      (λ (h : length table - at < vrp_size w). rw (vrps-end w table at h) f)
-      (λ (h : vrp_size w ≤ length table - at).
-      let s = take (at + vrp_size w - at) (drop at table) in
-      let n = good-next w table at h g in
-      let k = record-fits whole s (octets_take (drop at table) (octets_drop table o at) (at + vrp_size w - at)) (part_length table at (vrp_size w) (omega arith)) n.0 in
-      rw (vrps-next w table at h) (fit-from fuel (at + vrp_size w) (omega arith) n.1 (also k f)))
-      (lt_or_ge (length table - at) (vrp_size w))
+module _ {w : ℕ} (whole : Whole w) where
+  fit-from : (fuel : ℕ) (s : List ℕ) → length s < fuel → Octets s → GoodTable w s → {vs : List Vrp} → Fit w vs → Fit w (turned (vrps w s) vs)
+  unfolding turned
+  fit-from zero s l o g f = absurd (omega arith)
+  fit-from (suc fuel) s l o g f = ⊎_elim
+      (λ (h : length s < vrp_size w). rw (vrps-short w s h) f)
+      (λ (h : vrp_size w ≤ length s).
+      let x = take (vrp_size w) s in
+      let rest = drop (vrp_size w) s in
+      let e : s ≡ x ++ rest = sym (take-append-drop (vrp_size w) s) in
+      let size : length x ≡ vrp_size w = length-take-le (vrp_size w) s h in
+      let n = good-next w x rest e size g in
+      let k = record-fits whole x (octets_take s o (vrp_size w)) size n.0 in
+      rw (vrps-next w x rest e size) (fit-from fuel rest (omega (arith, length-drop (vrp_size w) s, size_pos w)) (octets_drop s o (vrp_size w)) n.1 (also k f)))
+      (lt_or_ge (length s) (vrp_size w))
 
-  table_fits : GoodTable w table → Fit w (newest w table)
-  table_fits g = fit-from (suc (length table)) 0 (omega arith) g all
+  table_fits : (table : List ℕ) → Octets table → GoodTable w table → Fit w (newest w table)
+  table_fits table o g = fit-from (suc (length table)) table (omega arith) o g all
 
 -- ## The ways out
 
@@ -79,8 +83,8 @@ module _ (w : ℕ) (table memory : List ℕ) where
     pub build_taken : GoodTable w table × (length (vrps w table) ≤ vrps_max)
     build_taken = (taken-good w table taken, taken-few w table taken)
 
-    module _ {memory' : List ℕ} {r : ℕ} (filled : Filled w table memory memory' r) where
-      pub build_full : Whole w → Octets table → r ≡ 0 → {memory'' : List ℕ} → memory'' ≡ replicate (length memory) 0
+    module _ {memory' : List ℕ} {made : Option ℕ} (filled : Filled w table memory memory' made) where
+      pub build_full : Whole w → Octets table → made ≡ None → {memory'' : List ℕ} → memory'' ≡ replicate (length memory) 0
           → Builds Holds w table memory (refused NoRoom) memory''
       build_full whole o z c =
           record {
@@ -90,11 +94,11 @@ module _ (w : ℕ) (table memory : List ℕ) where
             kept = λ s y ne. absurd (ne (cc));
           }
 
-      pub build_done : (r ≡ 0 → ⊥) → length memory' ≡ length memory → Builds Holds w table memory (done r) memory'
-      build_done ne size =
-          let h = filled.held (omega arith) in
+      pub build_done : {n : ℕ} → made ≡ Some n → length memory' ≡ length memory → Builds Holds w table memory (done n) memory'
+      build_done {n} m size =
+          let h = filled.held n m in
           record {
-            told = taken-done w table taken memory h size (filled.count (omega arith));
+            told = taken-done w table taken memory h size (filled.count n m);
             held = λ m y. taken-holds w table taken memory h;
             cleared = λ y. let x : ◌≡◌ {A = ℕ} 0 1 = cc in absurd (omega arith);
             kept = λ s y. let x : ◌≡◌ {A = ℕ} 0 1 = cc in absurd (omega arith);

@@ -1,15 +1,15 @@
--- Record after record of a table, at any width; and memory of zeros.
+-- Record after record of a table, at any width.
 use mathlib.Core.Path.{◌≡◌, refl, sym, ap, ◌∙◌, subst}
-use mathlib.Core.List.{List, [], ◌∷◌, ◌++◌, append-nil}
-use Prim.Native.Nat.{ℕ, zero, suc, ◌+◌, ◌-◌, ◌*◌, ◌≤◌, ◌<◌}
-use native.Mathlib.Numerals.{add-one}
+use mathlib.Core.List.{List, [], ◌∷◌, ◌++◌}
+use Prim.Native.Nat.{ℕ, zero, suc, ◌+◌, ◌*◌, ◌≤◌, ◌<◌}
 use native.Mathlib.Omega.{arith}
-use lib.ListN.{length, get_or, set, take, drop, replicate, length-set, drop_of_length-le}
+use lib.ListN.{length, get_or, set, length-set}
+use Rattle.std.specs.Prelude.{Option, Some, None}
 use Rattle.rules.specs.Settings.{vrps_max}
 use Rattle.rules.specs.Origin.{Vrp, vrp, vrps, vrp_size}
 use Rattle.vrps.specs.Weighing.{Good}
 use Rattle.vrp_tables.specs.Scan.{GoodTable}
-use Rattle.vrp_tables.proofs.Scans.{vrps-next, vrps-end, good-next}
+use Rattle.vrp_tables.proofs.Scans.{vrps-short, vrps-next, good-next}
 use Rattle.vrp_tree.specs.Tree.{spot, parts_of, turned, newest}
 use Rattle.vrp_tree.specs.Memory.{Tree, Held, none}
 use Rattle.vrp_tree.proofs.Parts.{spot-le, spot-one, spot-new, spot-old, parts-le, parts-some, turned-length}
@@ -62,23 +62,21 @@ tree_start t h =
 
 -- ## The run
 
--- The records before `at` are in the index, which has `nodes` nodes, and those from `at` on give what is wanted. The memory is as long as
--- it was.
-pub record Run (w : ℕ) (table start t : List ℕ) (nodes at records : ℕ) : Type 0 where
-  pub within : at ≤ length table
-  pub good : GoodTable w (drop at table)
+-- The records before the bytes that are left are in the index, which has `nodes` nodes, and those left give what is wanted. The memory is as
+-- long as it was.
+pub record Run (w : ℕ) (table start t : List ℕ) (nodes : ℕ) (s : List ℕ) (records : ℕ) : Type 0 where
+  pub good : GoodTable w s
   pub vs : List Vrp
   pub held : Held w vs t
   pub count : length (parts_of w vs) ≡ nodes
   pub number : length vs ≡ records
-  pub left : turned (vrps w (drop at table)) vs ≡ newest w table
+  pub left : turned (vrps w s) vs ≡ newest w table
   pub size : length t ≡ length start
 
-pub run_start : {w : ℕ} (table t : List ℕ) → 3 ≤ length t → GoodTable w table → Run w table (rooted t) (rooted t) 1 0 0
+pub run_start : {w : ℕ} (table t : List ℕ) → 3 ≤ length t → GoodTable w table → {s : List ℕ} → s ≡ table → Run w table (rooted t) (rooted t) 1 s 0
 unfolding parts_of
-run_start table t h g =
-    record {
-      within = omega arith;
+run_start table t h g e =
+    rw e (record {
       good = g;
       vs = [];
       held = record { tree = tree_start t h; linked = none; room = omega (arith, rooted-length t) };
@@ -86,84 +84,63 @@ run_start table t h g =
       number = refl;
       left = refl;
       size = refl;
-    }
+    })
 
 -- No triple.
-pub run_none : (w : ℕ) (table t t' : List ℕ) → length t < 3 → Filled w table t t' 0
+pub run_none : (w : ℕ) (table t t' : List ℕ) → length t < 3 → Filled w table t t' None
 run_none w table t t' h =
-    record { full = λ z. omega (arith, parts-some w (newest w table)); held = λ z. absurd (omega arith); count = λ z. absurd (omega arith) }
+    record { full = λ z. omega (arith, parts-some w (newest w table)); held = λ n z. cc; count = λ n z. cc }
 
-module _ {w : ℕ} {table start t : List ℕ} {nodes at records : ℕ} (run : Run w table start t nodes at records) where
+module _ {w : ℕ} {table start t : List ℕ} {nodes : ℕ} {s : List ℕ} {records : ℕ} (run : Run w table start t nodes s records) where
   -- No record is left.
-  pub run_end : length table - at < vrp_size w → (t₀ : List ℕ) → Filled w table t₀ t nodes
+  pub run_end : length s < vrp_size w → (t₀ : List ℕ) → Filled w table t₀ t (Some nodes)
   unfolding turned
   run_end h t₀ =
-      let e : run.vs ≡ newest w table = rw (vrps-end w table at h) at run.left in
+      let e : run.vs ≡ newest w table = rw (vrps-short w s h) at run.left in
       record {
-        full = λ (z : nodes ≡ 0). absurd (omega (arith, parts-some w run.vs, run.count));
-        held = λ q. subst (λ (l : List Vrp). Held w l t) e run.held;
-        count = λ q. ap (λ (l : List Vrp). length (parts_of w l)) (sym e) ∙ run.count;
+        full = λ z. cc;
+        held = λ n q. subst (λ (l : List Vrp). Held w l t) e run.held;
+        count = λ n q. let c = run.count in rw (← e) (cc);
       }
 
   -- One is left.
-  module _ (next : vrp_size w ≤ length table - at) where
-    abbrev bytes : List ℕ
-    bytes = take (at + vrp_size w - at) (drop at table)
+  module _ (x rest : List ℕ) (next : s ≡ x ++ rest) (h : length x ≡ vrp_size w) where
+    pub run-good : Good w x
+    run-good = (good-next w x rest next h run.good).0
 
-    pub run-good : Good w bytes
-    run-good = (good-next w table at next run.good).0
-
-    onward : turned (vrps w (drop (at + vrp_size w) table)) (vrp w bytes ∷ run.vs) ≡ newest w table
+    onward : turned (vrps w rest) (vrp w x ∷ run.vs) ≡ newest w table
     unfolding turned
-    onward = rw (vrps-next w table at next) at run.left
+    onward = rw (vrps-next w x rest next h) at run.left
 
-    all-records : length (vrps w table) ≡ length (vrps w (drop (at + vrp_size w) table)) + length (vrp w bytes ∷ run.vs)
-    all-records = sym (newest-length w table) ∙ ap length (sym onward) ∙ turned-length (vrps w (drop (at + vrp_size w) table)) (vrp w bytes ∷ run.vs)
+    all-records : length (vrps w table) ≡ length (vrps w rest) + length (vrp w x ∷ run.vs)
+    all-records = sym (newest-length w table) ∙ ap length (sym onward) ∙ turned-length (vrps w rest) (vrp w x ∷ run.vs)
 
     -- The records so far are fewer than all.
-    pub run-number : records < length (vrps w table)
+    run-number : records < length (vrps w table)
     run-number = omega (arith, run.number, all-records)
 
-    module _ (few : length (vrps w table) ≤ vrps_max) {t' : List ℕ} {r : ℕ} (p : Puts w (vrp w bytes) t records nodes t' r) where
-      put : Put w (vrp w bytes) run.vs t t' r
+    module _ (few : length (vrps w table) ≤ vrps_max) {t' : List ℕ} {made : Option ℕ} (p : Puts w (vrp w x) t records nodes t' made) where
+      put : Put w (vrp w x) run.vs t t' made
       put = p.put run.vs run.held run.number run.count (omega (arith, run-number))
 
-      pub run-next : (r ≡ 0 → ⊥) → length t' ≡ length t → Run w table start t' r (at + vrp_size w) (records + 1)
-      run-next ne e =
+      pub run-next : {n : ℕ} → made ≡ Some n → length t' ≡ length t → Run w table start t' n rest (records + 1)
+      run-next {n} m e =
           record {
-            within = omega (arith, run.within);
-            good = (good-next w table at next run.good).1;
-            vs = vrp w bytes ∷ run.vs;
-            held = put.held (omega arith);
-            count = put.count (omega arith);
+            good = (good-next w x rest next h run.good).1;
+            vs = vrp w x ∷ run.vs;
+            held = put.held n m;
+            count = put.count n m;
             number = omega (arith, run.number);
             left = onward;
             size = e ∙ run.size;
           }
 
-      pub run-full : r ≡ 0 → (t₀ : List ℕ) → length t₀ ≡ length start → Filled w table t₀ t' 0
+      pub run-full : made ≡ None → (t₀ : List ℕ) → length t₀ ≡ length start → Filled w table t₀ t' None
       run-full z t₀ e =
           record {
             full = λ q.
-                let l = rw onward at (parts-le w (vrps w (drop (at + vrp_size w) table)) (vrp w bytes ∷ run.vs)) in
+                let l = rw onward at (parts-le w (vrps w rest) (vrp w x ∷ run.vs)) in
                 omega (arith, put.full z, run.size, e, l, all-records);
-            held = λ q. absurd (omega arith);
-            count = λ q. absurd (omega arith);
+            held = λ n q. cc;
+            count = λ n q. cc;
           }
-
--- ## Zeros
-
--- Memory whose first i numbers are 0.
-abbrev pub cleared : ℕ → List ℕ → List ℕ
-cleared i m = replicate i 0 ++ drop i m
-
-cleared-suc : (i : ℕ) (m : List ℕ) → i < length m → set (cleared i m) i 0 ≡ cleared (suc i) m
-cleared-suc i [] h = absurd (omega arith)
-cleared-suc zero (x ∷ m) h = refl
-cleared-suc (suc i) (x ∷ m) h = ap (λ (l : List ℕ). 0 ∷ l) (cleared-suc i m (omega arith))
-
-pub cleared-next : {t : List ℕ} (i : ℕ) (m : List ℕ) → t ≡ cleared i m → i < length m → set t i 0 ≡ cleared (i + 1) m
-cleared-next i m e h = rw (e, add-one i) (cleared-suc i m h)
-
-pub cleared-end : {t : List ℕ} (i : ℕ) (m : List ℕ) → t ≡ cleared i m → i ≡ length m → t ≡ replicate (length m) 0
-cleared-end i m e z = e ∙ rw (z, drop_of_length-le m {i = length m} (omega arith)) (append-nil (replicate (length m) 0))

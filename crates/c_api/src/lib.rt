@@ -1,4 +1,5 @@
-// The library for callers in C and Rust: numbers, slices and numbers handed back. include/bgp_policy.h declares it.
+// The library for callers in C and Rust: numbers, slices and numbers handed back. include/bgp_policy.h declares it. The exports of IPv4 and of
+// IPv6 stay apart, and sessions come as five numbers: that is the C interface.
 #![tactic(auto)]
 
 pub mod vrp_index;
@@ -15,13 +16,11 @@ ghost use Rattle.rules.specs.Origin.{ipv4, ipv6, origin_state, received_tag};
 ghost use Rattle.rules.specs.Choice.{choose_in, better, index_told, left_told};
 ghost use Rattle.c_api.specs.Numbers.{Numbered, Reported, ReportedReceipt};
 
-use answers::{
-    report_advertised, report_chosen, report_opened, report_received, report_sent_check,
-    report_stated, report_tag_read,
-};
+use answers::{report, report_chosen, report_received, report_sent_check, report_tag_read};
 use choice::keys::Sender;
 use settings::sessions::session_of;
-use vrps::prefixes::words6;
+use vrps::family::Family;
+use vrps::prefixes::{words4, words6};
 
 // Opening of a session: the role agreement in the OPEN's optional parameters.
 #[unsafe(no_mangle)]
@@ -29,7 +28,7 @@ pub extern "C" fn bgp_open(local_role: u8, strict: u8, parameters: &[u8], beside
     ensures { (result ≡ answer_number (open_session local_role strict parameters.now)) × (beside.new ≡ beside_number (open_session local_role strict parameters.now)) }
 {
     let answer = opening::open_session(parameters, local_role, strict);
-    report_opened(answer, beside)
+    report(answer.map(usize::from), beside)
 }
 
 // Receipt of a block on a session; on answers 0 and 1, through `thrown_out`, how many tags of the block are thrown out, 0 on any other; on
@@ -72,7 +71,7 @@ pub extern "C" fn bgp_send_size(
 {
     let session = session_of(local_as, remote_as, local_role, mode, one_administration);
     let answer = policy::size::send_size(session, source, state, block);
-    report_advertised(answer, beside)
+    report(answer, beside)
 }
 
 // The second: the block as it goes out.
@@ -93,7 +92,7 @@ pub extern "C" fn bgp_send_write(
 {
     let sender = session_of(local_as, remote_as, local_role, mode, one_administration);
     let answer = policy::write::send_write(sender, source, state, block, out);
-    report_advertised(answer, beside)
+    report(answer, beside)
 }
 
 // Whether the block that another make sent is allowed, by what sending makes of the same input: 1 for yes, 0 for no.
@@ -130,8 +129,9 @@ pub extern "C" fn bgp_origin_state(
 ) -> u8
     ensures { (result ≡ answer_number (origin_state ipv4 prefix_length prefix own_as table.now block.now)) × (beside.new ≡ beside_number (origin_state ipv4 prefix_length prefix own_as table.now block.now)) }
 {
-    let answer = origin::origin_state(prefix_length, prefix, own_as, table, block);
-    report_stated(answer, beside)
+    let words = words4(prefix);
+    let answer = origin::origin_state(Family::ipv4(), prefix_length, words, own_as, table, block);
+    report(answer.map(usize::from), beside)
 }
 
 // The origin state of an IPv6 route, by a table of VRPs; the prefix is two numbers, that of its first eight bytes and that of its last.
@@ -148,8 +148,8 @@ pub extern "C" fn bgp_origin_state6(
     ensures { (result ≡ answer_number (origin_state ipv6 prefix_length (prefix_high * 2 ^ 64 + prefix_low) own_as table.now block.now)) × (beside.new ≡ beside_number (origin_state ipv6 prefix_length (prefix_high * 2 ^ 64 + prefix_low) own_as table.now block.now)) }
 {
     let prefix = words6(prefix_high, prefix_low);
-    let answer = origin::origin_state6(prefix_length, prefix, own_as, table, block);
-    report_stated(answer, beside)
+    let answer = origin::origin_state(Family::ipv6(), prefix_length, prefix, own_as, table, block);
+    report(answer.map(usize::from), beside)
 }
 
 // The state that the tags received in a block tell, and through `thrown_out` how many of them are thrown out, 0 on a refusal.
@@ -158,8 +158,7 @@ pub extern "C" fn bgp_received_tag(block: &[u8], beside: &mut usize, thrown_out:
     ensures { (result ≡ answer_number (received_tag block.now)) × (beside.new ≡ beside_number (received_tag block.now))
         × (thrown_out.new ≡ get_or (thrown_told result block.now) 0) }
 {
-    let answer = origin::received_tag(block);
-    report_tag_read(answer, beside, thrown_out)
+    report_tag_read(origin::received_tag(block), beside, thrown_out)
 }
 
 // The route for a client, among the candidates of a table.
@@ -193,7 +192,6 @@ pub extern "C" fn bgp_better<'a>(
 ) -> u8
     ensures { (result ≡ answer_number (better (record { block = first.now; state = state; identifier = identifier; address = address }) (record { block = second.now; state = other_state; identifier = other_identifier; address = other_address }))) × (beside.new ≡ beside_number (better (record { block = first.now; state = state; identifier = identifier; address = address }) (record { block = second.now; state = other_state; identifier = other_identifier; address = other_address }))) }
 {
-    let mut answer = 0u8;
     let sender = Sender {
         state,
         identifier,
@@ -204,6 +202,5 @@ pub extern "C" fn bgp_better<'a>(
         identifier: other_identifier,
         address: other_address,
     };
-    let winner = choice::better(first, sender, second, other, &mut answer, beside);
-    answer
+    report(choice::better(first, sender, second, other).told, beside)
 }

@@ -5,16 +5,16 @@ ghost use Rattle.rules.specs.Index.{Builds, Inserts, LooksUp};
 ghost use Rattle.vrp_tree.specs.Memory.{Holds};
 ghost use Rattle.c_api.specs.Numbers.{ReportedIndex, ReportedLookUp};
 
-use answers::{report_indexed, report_looked_up};
-use vrps::prefixes::words6;
+use answers::{report, report_looked_up};
+use vrps::family::Family;
+use vrps::prefixes::{words4, words6};
 
 // The index of an IPv4 table.
 #[unsafe(no_mangle)]
 pub extern "C" fn bgp_index_build(table: &[u8], memory: &mut [u32], beside: &mut usize) -> u8
     ensures { ReportedIndex (Builds Holds ipv4 table.now memory.old) result beside.new memory.new }
 {
-    let answer = build::build(table, memory);
-    report_indexed(answer, beside)
+    report(build::build(Family::ipv4(), table, memory), beside)
 }
 
 // The index of an IPv6 table.
@@ -22,8 +22,7 @@ pub extern "C" fn bgp_index_build(table: &[u8], memory: &mut [u32], beside: &mut
 pub extern "C" fn bgp_index_build6(table: &[u8], memory: &mut [u32], beside: &mut usize) -> u8
     ensures { ReportedIndex (Builds Holds ipv6 table.now memory.old) result beside.new memory.new }
 {
-    let answer = build::build6(table, memory);
-    report_indexed(answer, beside)
+    report(build::build(Family::ipv6(), table, memory), beside)
 }
 
 // One record more at the end of an IPv4 table, of which the caller says how many records it has and how many nodes its index.
@@ -37,8 +36,8 @@ pub extern "C" fn bgp_index_insert(
 ) -> u8
     ensures { ReportedIndex (Inserts Holds ipv4 added.now memory.old records nodes) result beside.new memory.new }
 {
-    let answer = index::insert(added, memory, records, nodes);
-    report_indexed(answer, beside)
+    let answer = index::insert(Family::ipv4(), added, memory, records, nodes);
+    report(answer, beside)
 }
 
 // One record more at the end of an IPv6 table.
@@ -52,8 +51,8 @@ pub extern "C" fn bgp_index_insert6(
 ) -> u8
     ensures { ReportedIndex (Inserts Holds ipv6 added.now memory.old records nodes) result beside.new memory.new }
 {
-    let answer = index::insert6(added, memory, records, nodes);
-    report_indexed(answer, beside)
+    let answer = index::insert(Family::ipv6(), added, memory, records, nodes);
+    report(answer, beside)
 }
 
 // The state of an IPv4 route by an index, and how many nodes the look-up visited.
@@ -68,7 +67,8 @@ pub extern "C" fn bgp_index_look_up(
 ) -> u8
     ensures { ReportedLookUp (LooksUp Holds ipv4 memory.now prefix prefix_length origin) result beside.new visited.new }
 {
-    let answer = lookup::look_up(memory, prefix_length, prefix, origin);
+    let words = words4(prefix);
+    let answer = lookup::look_up(Family::ipv4(), memory, prefix_length, words, origin);
     report_looked_up(answer, beside, visited)
 }
 
@@ -86,6 +86,6 @@ pub extern "C" fn bgp_index_look_up6(
     ensures { ReportedLookUp (LooksUp Holds ipv6 memory.now (prefix_high * 2 ^ 64 + prefix_low) prefix_length origin) result beside.new visited.new }
 {
     let prefix = words6(prefix_high, prefix_low);
-    let answer = lookup::look_up6(memory, prefix_length, prefix, origin);
+    let answer = lookup::look_up(Family::ipv6(), memory, prefix_length, prefix, origin);
     report_looked_up(answer, beside, visited)
 }

@@ -14,8 +14,8 @@ use Rattle.rules.specs.Choice.{Candidate, candidate, bad_candidate, bad_offer, p
 use Rattle.octets.proofs.Slices.{part-is}
 use Rattle.attributes.specs.Layout.{layout, reading, value_at}
 use Rattle.attributes.specs.declared.layout.Layout.{Layout}
-use Rattle.attributes.specs.declared.layout.Reading.{Reading}
-use Rattle.attributes.specs.declared.layout.Reading.TheVariants.{Clean, Fault}
+use Rattle.std.specs.Prelude.{Result, Ok, Err}
+use Rattle.rules.specs.declared.Refusal.{Refusal}
 use Rattle.attributes.proofs.Found.{value_of_lem, has_of, fault-read, clean-read}
 use Rattle.choice.specs.Keys.{Reads, keys_in}
 
@@ -33,16 +33,16 @@ module _ (c : Candidate) {x : Bool} (e : x ≡ (ltb block_max (length c.block) |
   unfolding bad_candidate
   range_bad q = rw (sym e ∙ q) refl
 
-  module _ (q : x ≡ false) {r : Reading} (p : r ≡ reading c.block) where
-    pub fault_bad : {f : ℕ} → r ≡ Fault f → bad_candidate c ≡ true
+  module _ (q : x ≡ false) {r : Result Layout Refusal} (p : r ≡ reading c.block) where
+    pub fault_bad : {f : Refusal} → r ≡ Err f → bad_candidate c ≡ true
     unfolding bad_candidate
     fault_bad z = rw (sym e ∙ q, (fault-read c.block p z).0) refl
 
-    pub clean-good : {l : Layout} → r ≡ Clean l → bad_candidate c ≡ false
+    pub clean-good : {l : Layout} → r ≡ Ok l → bad_candidate c ≡ false
     unfolding bad_candidate
     clean-good z = rw (sym e ∙ q, (clean-read c.block p z).0) refl
 
-pub clean_reads : (b : List ℕ) {r : Reading} {l : Layout} → r ≡ reading b → r ≡ Clean l → Reads b l
+pub clean_reads : (b : List ℕ) {r : Result Layout Refusal} {l : Layout} → r ≡ reading b → r ≡ Ok l → Reads b l
 clean_reads b p z = let k = clean-read b p z in record { good = k.0; is = k.1 }
 
 -- What is found where a block reads cleanly.

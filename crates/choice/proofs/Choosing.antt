@@ -1,14 +1,14 @@
 -- The answers of choosing and of comparing: what each way out of the code answers is what the definition does.
-use Prim.Native.Nat.{ℕ, ◌+◌, ◌-◌, ◌*◌, ◌/◌, ◌%◌, ◌≤◌, ◌<◌}
+use Prim.Native.Nat.{ℕ, ◌+◌, ◌*◌, ◌/◌, ◌%◌, ◌≤◌, ◌<◌}
 use mathlib.Core.Path.{◌≡◌, refl, sym, ap, ◌∙◌}
 use mathlib.Core.Bool.{Bool, true, false, not, cond, false≢true}
-use mathlib.Core.List.{List, [], ◌∷◌, map}
+use mathlib.Core.List.{List, [], ◌∷◌, ◌++◌, map}
 use native.Mathlib.Omega.{arith}
 use borrow.Author.Tests.{lt-ltb, le-ltb}
 use lib.Dec.{ltb}
-use lib.ListN.{length, take, drop}
+use lib.ListN.{length, length-append}
 use Rattle.rules.specs.Bytes.{one_of, exists}
-use Rattle.rules.specs.Rows.{chop, whole, by}
+use Rattle.rules.specs.Rows.{Row, chop, whole, by, with_item}
 use Rattle.rules.specs.Answers.{done, refused, order, number}
 use Rattle.rules.specs.Settings.{candidates_max, mode_ok, mode_meant}
 use Rattle.rules.specs.Choice.{Candidate, offer_size, offer, offers, candidate, bad_candidate, bad_offer, numbered_from, left_of, keys, before, choose_checks, choose_in, better}
@@ -17,40 +17,42 @@ use Rattle.rules.specs.declared.Refusal.TheVariants.{BadSetting, BadLength, BadC
 use Rattle.rules.proofs.Answers.{here, past, earlier, answer-decided, answer-passed}
 use Rattle.rules.proofs.Lists.{Past, past_start, past_next, past-found, past_end}
 use Rattle.rules.proofs.Fixed.{whole-mod, not_whole-mod, whole-count}
-use Rattle.octets.proofs.Positions.{items-next, items-end}
-use Rattle.choice.specs.declared.best.Best.{Best}
-use Rattle.choice.specs.declared.best.Best.TheVariants.{Nothing, Route}
+use Rattle.rules.proofs.Rows.{fit_none, chop_stop, chop-front}
+use Rattle.std.specs.Prelude.{Option, Some, None}
 use Rattle.choice.specs.declared.best.BestRoute.{BestRoute}
 use Rattle.choice.specs.Keys.{keys_in, keys_of, listed}
 use Rattle.choice.specs.Bests.{left_in, taken}
 use Rattle.choice.proofs.Candidates.{lent, lent_is}
 use Rattle.choice.proofs.Taking.{taken_all, taken-on, taken-left, taken_none, taken-some}
 
--- The first `index` candidates of a table s are met: none is bad, at most as many are left, and the best of them with those after
--- them gives the best of all.
-pub record Met (client : ℕ) (buffer s : List ℕ) (meant : ℕ) (best : Best) (index : ℕ) : Type 0 where
+-- The first `index` candidates of a table s are met, and those in `rest` are not: none of the first is bad, at most as many are left, and the
+-- best of them with those after them gives the best of all.
+pub record Met (client : ℕ) (buffer s : List ℕ) (meant : ℕ) (best : Option BestRoute) (rest : List ℕ) (index : ℕ) : Type 0 where
   pub few : left_in best ≤ index
-  pub past : Past (bad_offer buffer) (offers s) (offers (drop (offer_size * index) s)) index
-  pub gives : taken_all meant client best (numbered_from index (map (candidate buffer) (offers (drop (offer_size * index) s))))
-      ≡ taken_all meant client Nothing (numbered_from 0 (map (candidate buffer) (offers s)))
+  pub size : offer_size * index + length rest ≡ length s
+  pub past : Past (bad_offer buffer) (offers s) (offers rest) index
+  pub gives : taken_all meant client best (numbered_from index (map (candidate buffer) (offers rest)))
+      ≡ taken_all meant client None (numbered_from 0 (map (candidate buffer) (offers s)))
 
-pub met_start : (client : ℕ) (buffer s : List ℕ) (meant : ℕ) → Met client buffer s meant Nothing 0
+pub met_start : (client : ℕ) (buffer s : List ℕ) (meant : ℕ) → Met client buffer s meant None s 0
 unfolding left_in
-met_start client buffer s meant = record { few = omega arith; past = past_start (offers s); gives = refl }
+met_start client buffer s meant = record { few = omega arith; size = omega arith; past = past_start (offers s); gives = refl }
 
--- The next candidate is o.
-module _ {client : ℕ} {buffer s : List ℕ} {meant : ℕ} {best : Best} {index : ℕ} (w : Met client buffer s meant best index)
-    (i : index < length s / offer_size) {o : Offer} (q : o ≡ offer (take (offer_size * index + offer_size - offer_size * index) (drop (offer_size * index) s))) where
-  table-next : offers (drop (offer_size * index) s) ≡ o ∷ offers (drop (offer_size * (index + 1)) s)
-  unfolding offers
-  table-next =
-      let n : offer_size * (index + 1) ≡ offer_size * index + offer_size = omega arith in
-      rw (q, n) (ap (map offer) (items-next offer_size s (offer_size * index) (omega arith) (omega arith)))
+-- The next candidate is o, and `after` is not met.
+module _ {client : ℕ} {buffer s : List ℕ} {meant : ℕ} {best : Option BestRoute} {rest : List ℕ} {index : ℕ} (w : Met client buffer s meant best rest index)
+    (bytes after : List ℕ) (cut : rest ≡ bytes ++ after) (n : length bytes ≡ offer_size) {o : Offer} (q : o ≡ offer bytes) where
+  table-next : offers rest ≡ o ∷ offers after
+  unfolding offers by with_item
+  table-next = rw (q, cut) (ap (λ (r : Row). map offer r.items) (chop-front (by offer_size) bytes after (sym n) (omega (arith, n))))
 
-  pub met_next : bad_offer buffer o ≡ false → {b : Best} → b ≡ taken meant client best index (lent buffer o) → Met client buffer s meant b (index + 1)
+  pub met_room : length s / offer_size ≤ candidates_max → left_in best < candidates_max
+  met_room h = omega (arith, h, w.few, w.size, n, ap length cut, length-append bytes after)
+
+  pub met_next : bad_offer buffer o ≡ false → {b : Option BestRoute} → b ≡ taken meant client best index (lent buffer o) → Met client buffer s meant b after (index + 1)
   met_next e {b} d =
       record {
         few = rw d (omega (arith, taken-left meant client best index (lent buffer o), w.few));
+        size = omega (arith, w.size, n, ap length cut, length-append bytes after);
         past = past_next (rw table-next at w.past) e refl;
         gives = rw (d, lent_is buffer o) (sym (taken-on meant client best index (candidate buffer o) _ refl) ∙ rw table-next at w.gives);
       }
@@ -87,39 +89,38 @@ module _ (mode client : ℕ) (buffer s : List ℕ) where
           sym (answer-decided order _ refl
           (past (λ z. untorn) (past (λ z. fine) (here refl (lt-ltb candidates_max (length (offers s)) (omega (arith, count))) (later, (later, tt))))))
 
-      module _ (h : length s / offer_size ≤ candidates_max) {meant : ℕ} {best : Best} {index : ℕ} (w : Met client buffer s meant best index) where
+      module _ (h : length s / offer_size ≤ candidates_max) {meant : ℕ} {best : Option BestRoute} {rest : List ℕ} {index : ℕ} (w : Met client buffer s meant best rest index) where
         few : ltb candidates_max (length (offers s)) ≡ false
         few = le-ltb candidates_max (length (offers s)) (omega (arith, count))
 
-        pub choose_bad : (i : index < length s / offer_size) {o : Offer}
-            → o ≡ offer (take (offer_size * index + offer_size - offer_size * index) (drop (offer_size * index) s)) → bad_offer buffer o ≡ true
+        pub choose_bad : (bytes after : List ℕ) → rest ≡ bytes ++ after → length bytes ≡ offer_size → {o : Offer} → o ≡ offer bytes → bad_offer buffer o ≡ true
             → refused (BadCandidate index) ≡ choose_in mode client buffer s
         unfolding choose_in choose_checks order number earlier one_of exists
-        choose_bad i q e =
-            let f = past-found (rw (table-next w i q) at w.past) e in
+        choose_bad bytes after cut n q e =
+            let f = past-found (rw (table-next w bytes after cut n q) at w.past) e in
             sym (answer-decided order {r = BadCandidate index} _ refl
             (past (λ z. untorn) (past (λ z. fine) (past (λ z. few) (here (ap BadCandidate f.1) f.0 (later, tt))))))
 
         -- At the end of the table.
-        module _ (i : length s / offer_size ≤ index) (z : meant ≡ mode_meant mode) where
-          end : offers (drop (offer_size * index) s) ≡ []
-          unfolding offers
-          end = ap (map offer) (items-end offer_size s (offer_size * index) (omega arith))
+        module _ (i : length rest < offer_size) (z : meant ≡ mode_meant mode) where
+          end : offers rest ≡ []
+          unfolding offers by
+          end = ap (λ (r : Row). map offer r.items) (chop_stop (by offer_size) rest (fit_none (by offer_size) rest i))
 
           sound : exists (bad_offer buffer) (offers s) ≡ false
           sound = (past_end (rw end at w.past)).0
 
-          all : best ≡ taken_all (mode_meant mode) client Nothing (numbered_from 0 (map (candidate buffer) (offers s)))
+          all : best ≡ taken_all (mode_meant mode) client None (numbered_from 0 (map (candidate buffer) (offers s)))
           unfolding taken_all numbered_from
           all = rw (end, z) at w.gives
 
-          pub choose-none : best ≡ Nothing → refused NoRoute ≡ choose_in mode client buffer s
+          pub choose-none : best ≡ None → refused NoRoute ≡ choose_in mode client buffer s
           unfolding choose_in choose_checks left_of order number earlier one_of exists
           choose-none e =
               sym (answer-decided order {r = NoRoute} _ refl
               (past (λ y. untorn) (past (λ y. fine) (past (λ y. few) (past (λ y. sound) (here refl (taken_none (mode_meant mode) client _ (sym e ∙ all)) tt))))))
 
-          pub choose-some : {b : BestRoute} → best ≡ Route b → done (record { index = b.index; left = b.left }) ≡ choose_in mode client buffer s
+          pub choose-some : {b : BestRoute} → best ≡ Some b → done (record { index = b.index; left = b.left }) ≡ choose_in mode client buffer s
           unfolding choose_in choose_checks left_of
           choose-some e =
               let f = taken-some (mode_meant mode) client (map (candidate buffer) (offers s)) (sym e ∙ all) in

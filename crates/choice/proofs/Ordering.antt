@@ -1,30 +1,39 @@
 -- The order of routes by their keys, and their classes, each as the code tests it.
 use Prim.Native.Nat.{ℕ, zero, suc, ◌≤◌}
-use mathlib.Core.Path.{◌≡◌, refl, sym, ◌∙◌}
-use mathlib.Core.Bool.{Bool, true, false, cond, and-false, or-false}
+use mathlib.Core.Path.{◌≡◌, refl, ◌∙◌}
+use mathlib.Core.Bool.{Bool, true, false, cond, ◌&&◌, ◌||◌}
 use mathlib.Core.List.{List, [], ◌∷◌}
 use native.Mathlib.Omega.{arith}
-use native.Mathlib.Nat.{le_refl}
-use borrow.Author.Tests.{eq-eqb, ne_eqb, le-ltb}
+use borrow.Author.Tests.{eq-eqb, ne_eqb}
 use lib.Dec.{ltb, eqb}
 use lib.ListN.{get_or}
+use Rattle.std.specs.Prelude.{Option, Some}
+use Rattle.std.proofs.Common.{Ordering, Less, Equal, Greater}
+use Rattle.std.specs.Ordering.{is_lt, is_some_and, nat_cmp, partial_ordering_then}
 use Rattle.rules.specs.Settings.{prioritise}
 use Rattle.rules.specs.Choice.{before}
 use Rattle.choice.specs.Bests.{rank}
 
--- The first key decides where it differs, else those after it.
-module _ (x y : ℕ) (xs ys : List ℕ) where
-  pub before-first : (x ≡ y → ⊥) → ltb x y ≡ before (x ∷ xs) (y ∷ ys)
+-- By the order that `Keys` derives, as by `before`, the first key decides where it differs, else those after it.
+module _ (x y : ℕ) where
+  pub before-then : (p : Option Ordering) (xs ys : List ℕ) → is_some_and is_lt p ≡ before xs ys
+      → is_some_and is_lt (partial_ordering_then (Some (nat_cmp x y)) p) ≡ before (x ∷ xs) (y ∷ ys)
   unfolding before
-  before-first h = rw (ne_eqb x y h) (sym (or-false (ltb x y)))
+  before-then p xs ys e = go (ltb x y) (eqb x y)
+    where
+      go : (less same : Bool) → is_some_and is_lt (partial_ordering_then (Some (cond less Less (cond same Equal Greater))) p) ≡ (less || (same && before xs ys))
+      go true same = refl
+      go false true = e
+      go false false = refl
 
-  pub before-next : x ≡ y → before xs ys ≡ before (x ∷ xs) (y ∷ ys)
+  pub before_last : is_some_and is_lt (Some (nat_cmp x y)) ≡ before (x ∷ []) (y ∷ [])
   unfolding before
-  before-next e = rw (e, le-ltb y y (le_refl y), eq-eqb y y refl) refl
-
-pub before_last : (x y : ℕ) → ltb x y ≡ before (x ∷ []) (y ∷ [])
-unfolding before
-before_last x y = sym (rw (and-false (eqb x y)) (or-false (ltb x y)))
+  before_last = go (ltb x y) (eqb x y)
+    where
+      go : (less same : Bool) → is_some_and is_lt (Some (cond less Less (cond same Equal Greater))) ≡ (less || (same && false))
+      go true same = refl
+      go false true = refl
+      go false false = refl
 
 -- Classes: one for all, or those of the states, of which the last is that of every other state.
 module _ (mode state : ℕ) where

@@ -10,18 +10,17 @@ use lib.Dec.{ltb, eqb}
 use lib.ListN.{length}
 use Rattle.rules.specs.Bytes.{is_empty, keep}
 use Rattle.rules.specs.Choice.{Numbered, keys, before, meet, chosen_from}
-use Rattle.choice.specs.declared.best.Best.{Best}
-use Rattle.choice.specs.declared.best.Best.TheVariants.{Nothing, Route}
+use Rattle.std.specs.Prelude.{Option, Some, None}
 use Rattle.choice.specs.declared.best.BestRoute.{BestRoute}
 use Rattle.choice.specs.Keys.{keys_in, keys_of, listed}
 use Rattle.choice.specs.Bests.{with, met, meets}
 
 -- The candidate b as the best of n, of the class m; and the best of candidates of one class.
-unfoldable pub lead : ℕ → ℕ → Numbered → Best
-lead n m b = Route (with n m b.index (keys_of b.candidate))
+unfoldable pub lead : ℕ → ℕ → Numbered → Option BestRoute
+lead n m b = Some (with n m b.index (keys_of b.candidate))
 
-unfoldable pub best_of : ℕ → List Numbered → Best
-best_of m [] = Nothing
+unfoldable pub best_of : ℕ → List Numbered → Option BestRoute
+best_of m [] = None
 best_of m (r ∷ l) = lead (length (r ∷ l)) m (foldl meet r l)
 
 -- It meets one of a higher class, of a lower, of its own.
@@ -39,18 +38,18 @@ module _ (n m : ℕ) (b x : Numbered) where
   lead-same = rw (le-ltb m m (omega arith)) (go (before (keys x.candidate) (keys b.candidate)))
     where
       go : (t : Bool)
-          → Route (cond t (with (n + 1) m x.index (keys_of x.candidate)) (with (n + 1) m b.index (keys_of b.candidate)))
-          ≡ Route (with (n + 1) m (cond t x b).index (keys_of (cond t x b).candidate))
+          → Some (cond t (with (n + 1) m x.index (keys_of x.candidate)) (with (n + 1) m b.index (keys_of b.candidate)))
+          ≡ Some (with (n + 1) m (cond t x b).index (keys_of (cond t x b).candidate))
       go true = refl
       go false = refl
 
 -- What is left of none is none, and what is left of some is chosen from them.
-pub best_none : (m : ℕ) (l : List Numbered) → best_of m l ≡ Nothing → is_empty l ≡ true
+pub best_none : (m : ℕ) (l : List Numbered) → best_of m l ≡ None → is_empty l ≡ true
 unfolding best_of lead is_empty
 best_none m [] e = refl
 best_none m (r ∷ l) e = let z : ◌≡◌ {A = ℕ} 0 1 = cc in absurd (omega arith)
 
-pub best_some : (m : ℕ) (l : List Numbered) {b : BestRoute} → best_of m l ≡ Route b
+pub best_some : (m : ℕ) (l : List Numbered) {b : BestRoute} → best_of m l ≡ Some b
     → (is_empty l ≡ false) × (record { index = b.index; left = b.left } ≡ chosen_from l)
 unfolding best_of lead is_empty chosen_from with
 best_some m [] e = let z : ◌≡◌ {A = ℕ} 0 1 = cc in absurd (omega arith)
@@ -69,7 +68,7 @@ module _ (k : Numbered → ℕ) where
   of_class n l = keep (λ r. eqb (k r) n) l
 
   -- The best route so far with all of them.
-  unfoldable pub met_all : Best → List Numbered → Best
+  unfoldable pub met_all : Option BestRoute → List Numbered → Option BestRoute
   met_all s l = foldl (λ s x. meets s (k x) x.index (keys_of x.candidate)) s l
 
   low_below : (l : List Numbered) (m : ℕ) → low m l ≤ m
@@ -134,7 +133,7 @@ module _ (k : Numbered → ℕ) where
           pick false z = refl
 
   -- From no route on, where no class is above t.
-  pub met_all_lem : (t : ℕ) → ((r : Numbered) → k r ≤ t) → (l : List Numbered) → met_all Nothing l ≡ best_of (low t l) (of_class (low t l) l)
+  pub met_all_lem : (t : ℕ) → ((r : Numbered) → k r ≤ t) → (l : List Numbered) → met_all None l ≡ best_of (low t l) (of_class (low t l) l)
   unfolding met_all low of_class keep meets lead best_of
   met_all_lem t top [] = refl
   met_all_lem t top (x ∷ l) = lead-first l (leads l) x ∙ ap (λ (m : ℕ). best_of (low m l) (of_class (low m l) (x ∷ l))) (sym (min-eq_right {n = k x} {m = t} (top x)))

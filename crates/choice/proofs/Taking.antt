@@ -12,8 +12,7 @@ use Rattle.rules.specs.Attributes.{attributes, has_otc}
 use Rattle.rules.specs.Choice.{Candidate, Numbered, numbered_from, without_otc, not_from, not_invalid, class, best_class, remaining, before, chosen_from}
 use Rattle.attributes.specs.declared.layout.Layout.{Layout}
 use Rattle.choice.specs.declared.keys.Keys.{Keys}
-use Rattle.choice.specs.declared.best.Best.{Best}
-use Rattle.choice.specs.declared.best.Best.TheVariants.{Nothing, Route}
+use Rattle.std.specs.Prelude.{Option, Some, None}
 use Rattle.choice.specs.declared.best.BestRoute.{BestRoute}
 use Rattle.choice.specs.Keys.{Reads, keys_of, listed}
 use Rattle.choice.specs.Bests.{is_removed, rank, with, met, meets, left_in, taken}
@@ -28,7 +27,7 @@ either f false p q = q
 
 module _ (mode client : ℕ) where
   -- One candidate, which the code removes, or meets with its class and keys.
-  module _ (best : Best) (index : ℕ) (c : Candidate) {l : Layout} (w : Reads c.block l) {x : Bool}
+  module _ (best : Option BestRoute) (index : ℕ) (c : Candidate) {l : Layout} (w : Reads c.block l) {x : Bool}
       (e : x ≡ is_removed mode client (ltb l.otc (length c.block)) c.state c.address) where
     pub taken_removed : x ≡ true → best ≡ taken mode client best index c
     unfolding taken
@@ -39,13 +38,13 @@ module _ (mode client : ℕ) where
       unfolding taken
       taken-met = rw (← otc-found w, sym e ∙ q, u, v) refl
 
-      pub taken-first : best ≡ Nothing → Route (with 1 n index k) ≡ taken mode client best index c
+      pub taken-first : best ≡ None → Some (with 1 n index k) ≡ taken mode client best index c
       unfolding meets
-      taken-first z = sym (ap (λ (b : Best). meets b n index k) z) ∙ taken-met
+      taken-first z = sym (ap (λ (b : Option BestRoute). meets b n index k) z) ∙ taken-met
 
-      pub taken_next : {b r : BestRoute} → best ≡ Route b → r ≡ met b n index k → Route r ≡ taken mode client best index c
+      pub taken_next : {b r : BestRoute} → best ≡ Some b → r ≡ met b n index k → Some r ≡ taken mode client best index c
       unfolding meets
-      taken_next z y = ap Route y ∙ sym (ap (λ (b : Best). meets b n index k) z) ∙ taken-met
+      taken_next z y = ap Some y ∙ sym (ap (λ (b : Option BestRoute). meets b n index k) z) ∙ taken-met
 
   -- ---- What is left but for the classes
 
@@ -107,44 +106,44 @@ module _ (mode client : ℕ) where
   -- ---- All candidates, in their sequence
 
   -- The best route so far with all of some candidates more.
-  unfoldable pub taken_all : Best → List Numbered → Best
+  unfoldable pub taken_all : Option BestRoute → List Numbered → Option BestRoute
   taken_all s l = foldl (λ s x. taken mode client s x.index x.candidate) s l
 
-  pub taken-on : (s : Best) (i : ℕ) (c : Candidate) (cs : List Candidate) {j : ℕ} → j ≡ i + 1
+  pub taken-on : (s : Option BestRoute) (i : ℕ) (c : Candidate) (cs : List Candidate) {j : ℕ} → j ≡ i + 1
       → taken_all s (numbered_from i (c ∷ cs)) ≡ taken_all (taken mode client s i c) (numbered_from j cs)
   unfolding taken_all numbered_from
   taken-on s i c cs {j} e = let n : j ≡ suc i = omega arith in rw n refl
 
-  taken-kept : (l : List Numbered) (s : Best) → taken_all s l ≡ met_all class_of s (keep stays l)
+  taken-kept : (l : List Numbered) (s : Option BestRoute) → taken_all s l ≡ met_all class_of s (keep stays l)
   unfolding taken_all met_all taken keep stays class_of
   taken-kept [] s = refl
   taken-kept (x ∷ l) s =
       go (is_removed mode client (has_otc (attributes x.candidate.block)) x.candidate.state x.candidate.address) (taken-kept l)
     where
-      go : (b : Bool) → ((s : Best) → taken_all s l ≡ met_all class_of s (keep stays l))
+      go : (b : Bool) → ((s : Option BestRoute) → taken_all s l ≡ met_all class_of s (keep stays l))
           → taken_all (cond b s (meets s (class_of x) x.index (keys_of x.candidate))) l ≡ met_all class_of s (cond (not b) (x ∷ keep stays l) (keep stays l))
       go true ih = ih s
       go false ih = ih (meets s (class_of x) x.index (keys_of x.candidate))
 
   taken-remaining : (cs : List Candidate)
-      → taken_all Nothing (numbered_from 0 cs) ≡ best_of (low class_of 2 (keep stays (numbered_from 0 cs))) (remaining mode client cs)
+      → taken_all None (numbered_from 0 cs) ≡ best_of (low class_of 2 (keep stays (numbered_from 0 cs))) (remaining mode client cs)
   unfolding remaining
   taken-remaining cs =
       let l = keep stays (numbered_from 0 cs) in
-      taken-kept (numbered_from 0 cs) Nothing ∙ met_all_lem class_of 2 top l ∙ rw (kept-is (numbered_from 0 cs), best_left l) refl
+      taken-kept (numbered_from 0 cs) None ∙ met_all_lem class_of 2 top l ∙ rw (kept-is (numbered_from 0 cs), best_left l) refl
 
-  pub taken_none : (cs : List Candidate) → Nothing ≡ taken_all Nothing (numbered_from 0 cs) → is_empty (remaining mode client cs) ≡ true
+  pub taken_none : (cs : List Candidate) → None ≡ taken_all None (numbered_from 0 cs) → is_empty (remaining mode client cs) ≡ true
   taken_none cs e = best_none _ (remaining mode client cs) (sym (e ∙ taken-remaining cs))
 
-  pub taken-some : (cs : List Candidate) {b : BestRoute} → Route b ≡ taken_all Nothing (numbered_from 0 cs)
+  pub taken-some : (cs : List Candidate) {b : BestRoute} → Some b ≡ taken_all None (numbered_from 0 cs)
       → (is_empty (remaining mode client cs) ≡ false) × (record { index = b.index; left = b.left } ≡ chosen_from (remaining mode client cs))
   taken-some cs e = best_some _ (remaining mode client cs) (sym (e ∙ taken-remaining cs))
 
   -- One candidate more adds at most one to those left.
-  pub taken-left : (s : Best) (i : ℕ) (c : Candidate) → left_in (taken mode client s i c) ≤ left_in s + 1
+  pub taken-left : (s : Option BestRoute) (i : ℕ) (c : Candidate) → left_in (taken mode client s i c) ≤ left_in s + 1
   unfolding taken meets met left_in with
-  taken-left Nothing i c = either left_in (is_removed mode client _ _ _) (omega arith) (omega arith)
-  taken-left (Route b) i c =
+  taken-left None i c = either left_in (is_removed mode client _ _ _) (omega arith) (omega arith)
+  taken-left (Some b) i c =
       either left_in (is_removed mode client _ _ _) (omega arith)
       (either left (ltb b.rank _) (omega arith) (either left (ltb _ b.rank) (omega arith) (either left (before _ (listed b.keys)) (omega arith) (omega arith))))
     where

@@ -1,12 +1,10 @@
 -- The best route so far, and what one candidate more makes of it.
-use Rattle.std.specs.Prelude.{ℕ, ◌+◌, Bool, cond, ◌&&◌, ◌||◌, List, [], ◌∷◌, ltb, eqb, get_or}
+use Rattle.std.specs.Prelude.{ℕ, ◌+◌, Bool, cond, ◌&&◌, ◌||◌, List, [], ◌∷◌, ltb, eqb, get_or, Option, Some, None}
 use Rattle.rules.specs.Settings.{drop_invalid, prioritise, invalid}
 use Rattle.rules.specs.Attributes.{attributes, has_otc}
 use Rattle.rules.specs.Choice.{Candidate, before}
 use Rattle.rules.specs.declared.Offer.{Offer}
 use Rattle.choice.specs.declared.keys.Keys.{Keys}
-use Rattle.choice.specs.declared.best.Best.{Best}
-use Rattle.choice.specs.declared.best.Best.TheVariants.{Nothing, Route}
 use Rattle.choice.specs.declared.best.BestRoute.{BestRoute}
 use Rattle.choice.specs.Keys.{keys_of, listed}
 
@@ -30,21 +28,21 @@ met best rank index keys =
     (cond (before (listed keys) (listed best.keys)) (with (best.left + 1) rank index keys) (with (best.left + 1) rank best.index best.keys)))
 
 -- The first candidate that is met is the best.
-unfoldable pub meets : Best → ℕ → ℕ → Keys → Best
-meets Nothing rank index keys = Route (with 1 rank index keys)
-meets (Route best) rank index keys = Route (met best rank index keys)
+unfoldable pub meets : Option BestRoute → ℕ → ℕ → Keys → Option BestRoute
+meets None rank index keys = Some (with 1 rank index keys)
+meets (Some best) rank index keys = Some (met best rank index keys)
 
 -- How many are left.
-unfoldable pub left_in : Best → ℕ
-left_in Nothing = 0
-left_in (Route best) = best.left
+unfoldable pub left_in : Option BestRoute → ℕ
+left_in None = 0
+left_in (Some best) = best.left
 
 -- The candidate that an offer makes with this block.
 abbrev pub offered : Offer → List ℕ → Candidate
 offered o block = record { block = block; state = o.state; identifier = o.identifier; address = o.address }
 
 -- One candidate more, of this index: removed, or met.
-unfoldable pub taken : ℕ → ℕ → Best → ℕ → Candidate → Best
+unfoldable pub taken : ℕ → ℕ → Option BestRoute → ℕ → Candidate → Option BestRoute
 taken mode client best index c =
     cond (is_removed mode client (has_otc (attributes c.block)) c.state c.address) best
     (meets best (rank mode c.state) index (keys_of c))

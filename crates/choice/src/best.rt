@@ -19,13 +19,6 @@ pub struct BestRoute {
     pub keys: Keys,
 }
 
-// No route yet, or the best so far.
-#[derive(Clone, Copy)]
-pub enum Best {
-    Nothing,
-    Route(BestRoute),
-}
-
 // Whether a candidate is removed whatever the others are: its block has an OTC, it is the client's own, or the mode drops it.
 fn removed(mode: u8, client: u32, otc: bool, state: u8, address: u32) -> bool
     ensures { result ≡ is_removed mode client otc state address }
@@ -91,16 +84,16 @@ fn meet(best: BestRoute, rank: usize, index: usize, keys: Keys) -> BestRoute
     }
 }
 
-// The best route so far once one candidate more is removed or met, of which the block reads cleanly. Internal.
+// The best route so far, None where there is none yet, once one candidate more is removed or met, of which the block reads cleanly. Internal.
 pub fn take(
-    best: Best,
+    best: Option<BestRoute>,
     mode: u8,
     client: u32,
     index: usize,
     offer: Offer,
     block: &[u8],
     layout: Layout,
-) -> Best
+) -> Option<BestRoute>
     requires { Reads block.now layout × (left_in best < candidates_max) }
     ensures { result ≡ taken mode client best index (offered offer block.now) }
 {
@@ -110,13 +103,13 @@ pub fn take(
     }
     let rank = rank_of(mode, offer.state);
     let keys = keys_of(block, layout, offer.identifier, offer.address);
-    let Best::Route(route) = best else {
-        return Best::Route(BestRoute {
+    let Some(route) = best else {
+        return Some(BestRoute {
             left: 1,
             rank,
             index,
             keys,
         });
     };
-    Best::Route(meet(route, rank, index, keys))
+    Some(meet(route, rank, index, keys))
 }

@@ -15,8 +15,9 @@ pub struct Sender {
     pub address: u32,
 }
 
-// The keys in their order, each as wide as an address: such a struct comes back without being packed and taken apart again.
-#[derive(Clone, Copy)]
+// The keys in their order, by which routes are ordered, each as wide as an address: such a struct comes back without being packed and taken
+// apart again.
+#[derive(Clone, Copy, PartialEq, Eq, PartialOrd, Ord)]
 pub struct Keys {
     pub path: usize,
     pub origin: usize,
@@ -41,14 +42,5 @@ pub fn keys_of(block: &[u8], layout: Layout, identifier: u32, address: u32) -> K
 pub fn goes_before(x: Keys, y: Keys) -> bool
     ensures { result ≡ before (listed x) (listed y) }
 {
-    if x.path != y.path {
-        return x.path < y.path;
-    }
-    if x.origin != y.origin {
-        return x.origin < y.origin;
-    }
-    if x.identifier != y.identifier {
-        return x.identifier < y.identifier;
-    }
-    x.address < y.address
+    x < y
 }

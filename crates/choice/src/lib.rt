@@ -8,99 +8,101 @@ pub mod best;
 pub mod keys;
 pub mod offers;
 
-ghost use Rattle.std.specs.Prelude.{◌≡◌};
-ghost use Rattle.rules.specs.Choice.{choose_in, better, told_chosen, Compared};
+ghost use Rattle.std.specs.Prelude.{◌≡◌, [], Err};
+ghost use Rattle.rules.specs.Answers.{told};
+ghost use Rattle.rules.specs.declared.Refusal.TheVariants.{BadCandidate};
+ghost use Rattle.rules.specs.Choice.{choose_in, better, told_chosen, Shows};
 
-use attributes::layout::Reading;
 use attributes::read;
-use best::{Best, take};
+use best::take;
 use keys::{Sender, goes_before, keys_of};
 use offers::{OFFER_SIZE, out_of_range, read_offer};
 use rules::{CANDIDATES_MAX, Chosen, Refusal};
 use settings::modes::mode_meant;
 use settings::ranges::mode_ok;
 
-// The number of answer 10.
-const BAD_CANDIDATE: u8 = 10;
+// What comparing two candidates tells: the winner's index, or the refusal of the first bad one; and the winner's own block, or on a refusal
+// an empty part of the first candidate's.
+#[derive(Clone, Copy)]
+pub struct Comparison<'a> {
+    pub told: Result<usize, Refusal>,
+    pub shown: &'a [u8],
+}
 
 // The route for the client with this address, among the candidates of a table.
-pub fn choose(mode: u8, client: u32, buffer: &[u8], offers: &[u8]) -> Chosen
+pub fn choose(mode: u8, client: u32, buffer: &[u8], offers: &[u8]) -> Result<Chosen, Refusal>
     ensures { told_chosen result ≡ choose_in mode client buffer.now offers.now }
 {
     if !mode_ok(mode) {
-        return Chosen::Refused(Refusal::BadSetting);
+        return Err(Refusal::BadSetting);
     }
     let count = offers.len() / OFFER_SIZE;
     if offers.len() % OFFER_SIZE != 0 || CANDIDATES_MAX < count {
-        return Chosen::Refused(Refusal::BadLength);
+        return Err(Refusal::BadLength);
     }
     let meant = mode_meant(mode);
-    let mut best = Best::Nothing;
-    let mut index = 0;
-    while index < count {
-        let at = OFFER_SIZE * index;
-        let offer = read_offer(&offers[at..at + OFFER_SIZE]);
+    let mut best = None;
+    for (index, bytes) in offers.chunks_exact(OFFER_SIZE).enumerate() {
+        let offer = read_offer(bytes);
         let start = offer.start as usize;
         let end = start + offer.size as usize;
         if buffer.len() < end {
-            return Chosen::Refused(Refusal::BadCandidate(index));
+            return Err(Refusal::BadCandidate(index));
         }
         let block = &buffer[start..end];
         if out_of_range(block.len(), offer.state) {
-            return Chosen::Refused(Refusal::BadCandidate(index));
+            return Err(Refusal::BadCandidate(index));
         }
-        let reading = read(block);
-        let Reading::Clean(layout) = reading else {
-            return Chosen::Refused(Refusal::BadCandidate(index));
+        let Ok(layout) = read(block) else {
+            return Err(Refusal::BadCandidate(index));
         };
         best = take(best, meant, client, index, offer, block, layout);
-        index += 1;
     }
-    let Best::Route(route) = best else {
-        return Chosen::Refused(Refusal::NoRoute);
+    let Some(route) = best else {
+        return Err(Refusal::NoRoute);
     };
-    Chosen::Route {
+    Ok(Chosen {
         index: route.index,
         left: route.left,
+    })
+}
+
+// What comparing tells of a bad candidate, the first or the second.
+fn bad<'a>(index: usize, first: &'a [u8]) -> Comparison<'a>
+    ensures { (result.told ≡ Err (BadCandidate index)) × ((result.shown.ref_ptr ≡ first.entry.ref_ptr) × (result.shown.now ≡ [])) }
+{
+    Comparison {
+        told: Err(Refusal::BadCandidate(index)),
+        shown: &first[..0],
     }
 }
 
-// The better of two candidates, by the order alone: its own block. `answer` becomes 0 with the winner's index in `index`, or 10
-// with the index of the first bad one; then the block shown is empty.
-pub fn better<'a>(
-    a: &'a [u8],
-    sender: Sender,
-    b: &'a [u8],
-    other: Sender,
-    answer: &mut u8,
-    index: &mut usize,
-) -> &'a [u8]
-    ensures { Compared (better (record { block = a.now; state = sender.state; identifier = sender.identifier; address = sender.address }) (record { block = b.now; state = other.state; identifier = other.identifier; address = other.address })) a.entry b.entry result answer.new index.new }
+// The better of two candidates, by the order alone.
+pub fn better<'a>(a: &'a [u8], sender: Sender, b: &'a [u8], other: Sender) -> Comparison<'a>
+    ensures { let decided = better (record { block = a.now; state = sender.state; identifier = sender.identifier; address = sender.address }) (record { block = b.now; state = other.state; identifier = other.identifier; address = other.address }) in (told result.told ≡ decided) × Shows decided a.entry b.entry result.shown }
 {
-    let empty = &a[..0];
-    *answer = BAD_CANDIDATE;
-    *index = 0;
     if out_of_range(a.len(), sender.state) {
-        return empty;
+        return bad(0, a);
     }
-    let reading = read(a);
-    let Reading::Clean(layout) = reading else {
-        return empty;
+    let Ok(layout) = read(a) else {
+        return bad(0, a);
     };
-    *index = 1;
     if out_of_range(b.len(), other.state) {
-        return empty;
+        return bad(1, a);
     }
-    let second = read(b);
-    let Reading::Clean(places) = second else {
-        return empty;
+    let Ok(places) = read(b) else {
+        return bad(1, a);
     };
-    *answer = 0;
     let x = keys_of(a, layout, sender.identifier, sender.address);
     let y = keys_of(b, places, other.identifier, other.address);
     if goes_before(y, x) {
-        return b;
+        return Comparison {
+            told: Ok(1),
+            shown: b,
+        };
     }
-    *index = 0;
-    return a;
+    Comparison {
+        told: Ok(0),
+        shown: a,
+    }
 }

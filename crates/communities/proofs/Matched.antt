@@ -10,8 +10,9 @@ use lib.Seq.{drop-drop}
 use Rattle.rules.specs.Bytes.{same_bytes}
 use Rattle.rules.specs.Changes.{drop_from}
 use Rattle.rules.proofs.Lists.{same-append}
-use Rattle.octets.proofs.Slices.{part-is, part_length, tail_is}
+use Rattle.octets.proofs.Slices.{part-is, tail_is}
 use Rattle.octets.proofs.Same.{same_lengths}
+use Rattle.communities.proofs.Walked.{Walked}
 use Rattle.communities.proofs.Dropped.{kept-none, kept_whole, left_step, left_end}
 
 -- Two rows by their first two bytes and the others.
@@ -24,55 +25,47 @@ same-two (x ∷ y ∷ c) [] h k = absurd (omega arith)
 same-two (x ∷ y ∷ c) (z ∷ []) h k = absurd (omega arith)
 same-two (x ∷ y ∷ c) (z ∷ w ∷ d) h k = refl
 
--- The bytes t from w on and what is left of v from i on, with the end, are the same exactly where all of both are.
-pub record Matched (dropped : List ℕ → Bool) (v end t : List ℕ) (i w : ℕ) : Type 0 where
-  pub within : i ≤ length v
+-- The bytes t from w on and what is kept of what is left of v, with the end, are the same exactly where all of both are.
+pub record Matched (dropped : List ℕ → Bool) (v end t left : List ℕ) (w : ℕ) : Type 0 where
   pub room : w ≤ length t
-  pub is : same_bytes (drop_from dropped (drop i v) ++ end) (drop w t) ≡ same_bytes (drop_from dropped v ++ end) t
+  pub is : same_bytes (drop_from dropped left ++ end) (drop w t) ≡ same_bytes (drop_from dropped v ++ end) t
 
 module _ {dropped : List ℕ → Bool} {v end t : List ℕ} where
-  pub matched_start : Matched dropped v end t 0 0
-  matched_start = record { within = omega arith; room = omega arith; is = refl }
+  pub matched_start : {left : List ℕ} → left ≡ v → Matched dropped v end t left 0
+  matched_start e = record { room = omega arith; is = rw e refl }
 
-  module _ {i w : ℕ} (m : Matched dropped v end t i w) where
+  module _ {left : List ℕ} {w : ℕ} (m : Matched dropped v end t left w) where
     -- No community is left to walk.
-    pub matched_end : length v - i < 8 → {r : Bool} → r ≡ same_bytes end (take (length t - w) (drop w t)) → r ≡ same_bytes (drop_from dropped v ++ end) t
-    matched_end h e = e ∙ ap (same_bytes end) (tail_is t w) ∙ (rw (left_end dropped v i h) at m.is)
+    pub matched_end : length left < 8 → {r : Bool} → r ≡ same_bytes end (take (length t - w) (drop w t)) → r ≡ same_bytes (drop_from dropped v ++ end) t
+    matched_end h e = e ∙ ap (same_bytes end) (tail_is t w) ∙ (rw (left_end dropped left h) at m.is)
 
-    module _ (h : 8 ≤ length v - i) where
-      abbrev community : List ℕ
-      community = take (i + 8 - i) (drop i v)
-
-      pub matched_dropped : dropped community ≡ true → Matched dropped v end t (i + 8) w
-      matched_dropped e =
-          record { within = omega arith; room = m.room; is = rw (left_step dropped v i h, kept-none dropped community e) at m.is }
+    module _ {community others : List ℕ} (walked : Walked left community others) where
+      pub matched_dropped : dropped community ≡ true → Matched dropped v end t others w
+      matched_dropped e = record { room = m.room; is = rw (left_step dropped walked, kept-none dropped community e) at m.is }
 
       module _ (e : dropped community ≡ false) where
-        eight : length community ≡ 8
-        eight = part_length v i 8 (omega (arith, m.within))
-
         rest : List ℕ
-        rest = drop_from dropped (drop (i + 8) v) ++ end
+        rest = drop_from dropped others ++ end
 
         next : same_bytes (community ++ rest) (drop w t) ≡ same_bytes (drop_from dropped v ++ end) t
         next =
             unfold rest in
-            rw (left_step dropped v i h, kept_whole dropped community e, append_assoc community (drop_from dropped (drop (i + 8) v)) end) at m.is
+            rw (left_step dropped walked, kept_whole dropped community e, append_assoc community (drop_from dropped others) end) at m.is
 
         pub matched_short : length t - w < 8 → false ≡ same_bytes (drop_from dropped v ++ end) t
         matched_short k =
-            same_lengths (community ++ rest) (drop w t) (λ z. omega (arith, z, eight, length-append community rest, length-drop w t)) ∙ next
+            same_lengths (community ++ rest) (drop w t) (λ z. omega (arith, z, walked.eight, length-append community rest, length-drop w t)) ∙ next
 
         -- The community against the eight bytes that stand in its place.
         module _ (k : 8 ≤ length t - w) where
           both : {x : Bool} → x ≡ same_bytes community (take (w + 8 - w) (drop w t)) → x && same_bytes rest (drop (w + 8) t) ≡ same_bytes (drop_from dropped v ++ end) t
           both q =
-              let l : length community ≤ length (drop w t) = omega (arith, eight, length-drop w t) in
-              rw (q, part-is t w 8) (sym (same-append community rest (drop w t) l ∙ rw (eight, drop-drop 8 w t) refl) ∙ next)
+              let l : length community ≤ length (drop w t) = omega (arith, walked.eight, length-drop w t) in
+              rw (q, part-is t w 8) (sym (same-append community rest (drop w t) l ∙ rw (walked.eight, drop-drop 8 w t) refl) ∙ next)
 
           pub matched_differs : {x : Bool} → x ≡ same_bytes community (take (w + 8 - w) (drop w t)) → x ≡ false → false ≡ same_bytes (drop_from dropped v ++ end) t
           matched_differs q z = rw z at (both q)
 
-          pub matched_kept : {x : Bool} → x ≡ same_bytes community (take (w + 8 - w) (drop w t)) → x ≡ true → Matched dropped v end t (i + 8) (w + 8)
+          pub matched_kept : {x : Bool} → x ≡ same_bytes community (take (w + 8 - w) (drop w t)) → x ≡ true → Matched dropped v end t others (w + 8)
           unfolding rest
-          matched_kept q z = record { within = omega arith; room = omega (arith, m.room); is = rw z at (both q) }
+          matched_kept q z = record { room = omega (arith, m.room); is = rw z at (both q) }

@@ -1,5 +1,5 @@
 -- The state that tags tell, community by community.
-use Prim.Native.Nat.{ℕ, ◌+◌, ◌-◌, ◌≤◌, ◌<◌, max}
+use Prim.Native.Nat.{ℕ, ◌≤◌, ◌<◌, max}
 use mathlib.Core.Path.{◌≡◌, refl, sym, ap, ◌∙◌}
 use mathlib.Core.Bool.{Bool, true, false, cond}
 use mathlib.Core.List.{List, [], ◌∷◌, map, foldl}
@@ -7,14 +7,14 @@ use native.Mathlib.Nat.{max-eq_left, max-eq_right}
 use native.Mathlib.Omega.{arith}
 use borrow.Author.Tests.{ltb-true, ltb-false, leb-true, le-leb, lt-leb, ne_eqb}
 use lib.Dec.{leb, ltb}
-use lib.ListN.{length, take, drop, get_or}
+use lib.ListN.{length, get_or}
 use Rattle.rules.specs.Bytes.{keep}
 use Rattle.rules.specs.Settings.{unavailable}
 use Rattle.rules.specs.Changes.{is_tag, is_erroneous, communities}
 use Rattle.rules.specs.Origin.{tag_values, greatest, tag_state}
 use Rattle.rules.proofs.Lists.{and_left, and_right}
-use Rattle.octets.proofs.Positions.{items-next, items-end}
 use Rattle.communities.specs.Received.{greater, with_value_of, with_community}
+use Rattle.communities.proofs.Walked.{Walked, communities-next, communities-end}
 
 -- A state is told already: the greatest of it and the values up to 2.
 greater-told : (state x : ℕ) → state ≤ 2 → greater state x ≡ max state x
@@ -73,18 +73,14 @@ module _ (state : ℕ) (c : List ℕ) where
   unfolding with_community
   with-other t = rw t refl
 
-module _ (v : List ℕ) where
-  -- Nothing is read yet, a community is read, nothing is left to read.
-  pub tags_start : foldl with_community unavailable (communities v) ≡ tag_state (tag_values v)
-  unfolding tag_values
-  tags_start = tags_alone (communities v) unavailable ∙ told-first (map (λ c. get_or c 7 0) (keep is_tag (communities v)))
+-- Nothing is read yet, a community is read, nothing is left to read.
+pub tags_start : (v : List ℕ) → foldl with_community unavailable (communities v) ≡ tag_state (tag_values v)
+unfolding tag_values
+tags_start v = tags_alone (communities v) unavailable ∙ told-first (map (λ c. get_or c 7 0) (keep is_tag (communities v)))
 
-  module _ (at state : ℕ) where
-    pub tags-next : 8 ≤ length v - at
-        → foldl with_community state (communities (drop at v)) ≡ foldl with_community (with_community state (take (at + 8 - at) (drop at v))) (communities (drop (at + 8) v))
-    unfolding communities
-    tags-next h = ap (foldl with_community state) (items-next 8 v at (omega arith) h)
+pub tags-next : (state : ℕ) {left c others : List ℕ} → Walked left c others
+    → foldl with_community state (communities left) ≡ foldl with_community (with_community state c) (communities others)
+tags-next state w = ap (foldl with_community state) (communities-next w)
 
-    pub tags-end : length v - at < 8 → foldl with_community state (communities (drop at v)) ≡ state
-    unfolding communities
-    tags-end h = ap (foldl with_community state) (items-end 8 v at h)
+pub tags-end : (state : ℕ) (left : List ℕ) → length left < 8 → foldl with_community state (communities left) ≡ state
+tags-end state left h = ap (foldl with_community state) (communities-end left h)

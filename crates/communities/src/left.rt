@@ -1,4 +1,4 @@
-// What is left of the value of a communities attribute once some are dropped, by the number of the test that picks those.
+// What is left of the value of a communities attribute once some are dropped.
 ghost use Rattle.std.specs.Prelude.{◌≡◌, ◌++◌, ◌+◌, ◌≤◌, ◌<◌, ◌^◌, length};
 ghost use Rattle.rules.specs.Bytes.{same_bytes};
 ghost use Rattle.rules.specs.Changes.{drop_from, thrown_out};
@@ -7,18 +7,18 @@ ghost use Rattle.communities.specs.Tags.{drop_test, kept, tag_bytes};
 ghost use Rattle.communities.specs.Walks.{SiftedMore};
 
 use super::findings::Sifted;
-use super::tags::{COMMUNITY_SIZE, is_dropped, is_erroneous, same_tag};
+use super::tags::{COMMUNITY_SIZE, Dropping, is_erroneous, same_tag};
 use octets::buffer::put;
 use octets::same_bytes;
 
 // What is found so far, and one community more: only what is dropped can be thrown out. Internal.
-fn sift_one(test: u8, so_far: Sifted, c: &[u8]) -> Sifted
+fn sift_one(dropping: Dropping, so_far: Sifted, c: &[u8]) -> Sifted
     requires { (length c.now ≡ 8) × (so_far.left + 8 < 2 ^ 64) × (so_far.thrown_out + 1 < 2 ^ 64) }
-    ensures { SiftedMore (drop_test test) so_far c.now result }
+    ensures { SiftedMore (drop_test dropping) so_far c.now result }
 {
     let left = so_far.left;
     let thrown_out = so_far.thrown_out;
-    if !is_dropped(test, c) {
+    if !dropping.drops(c) {
         return Sifted {
             left: left + COMMUNITY_SIZE,
             thrown_out,
@@ -34,27 +34,25 @@ fn sift_one(test: u8, so_far: Sifted, c: &[u8]) -> Sifted
 }
 
 // How many bytes of communities are left of a value, and how many of its tags are thrown out, in one walk.
-pub fn sift(test: u8, v: &[u8]) -> Sifted
-    ensures { (result.left ≡ length (drop_from (drop_test test) v.now)) × (result.thrown_out ≡ thrown_out v.now) }
+pub fn sift(dropping: Dropping, v: &[u8]) -> Sifted
+    ensures { (result.left ≡ length (drop_from (drop_test dropping) v.now)) × (result.thrown_out ≡ thrown_out v.now) }
 {
-    let mut i = 0;
     let mut sifted = Sifted {
         left: 0,
         thrown_out: 0,
     };
-    while COMMUNITY_SIZE <= v.len() - i {
-        sifted = sift_one(test, sifted, &v[i..i + COMMUNITY_SIZE]);
-        i += COMMUNITY_SIZE;
+    for c in v.chunks_exact(COMMUNITY_SIZE) {
+        sifted = sift_one(dropping, sifted, c);
     }
     sifted
 }
 
 // Stores what is left of a community: its eight bytes are read before any is stored, so that they go in one move. Internal.
-fn put_kept(test: u8, c: &[u8], out: &mut [u8], at: usize) -> usize
-    requires { (length c.now ≡ 8) × (at + length (kept (drop_test test) c.now) ≤ length out.old) }
-    ensures { Stored out.old at (kept (drop_test test) c.now) result out.new }
+fn put_kept(dropping: Dropping, c: &[u8], out: &mut [u8], at: usize) -> usize
+    requires { (length c.now ≡ 8) × (at + length (kept (drop_test dropping) c.now) ≤ length out.old) }
+    ensures { Stored out.old at (kept (drop_test dropping) c.now) result out.new }
 {
-    if is_dropped(test, c) {
+    if dropping.drops(c) {
         return at;
     }
     let bytes = [c[0], c[1], c[2], c[3], c[4], c[5], c[6], c[7]];
@@ -62,15 +60,13 @@ fn put_kept(test: u8, c: &[u8], out: &mut [u8], at: usize) -> usize
 }
 
 // Stores the communities that are left. Internal.
-pub fn put_left(test: u8, v: &[u8], out: &mut [u8], at: usize) -> usize
-    requires { at + length (drop_from (drop_test test) v.now) ≤ length out.old }
-    ensures { Stored out.old at (drop_from (drop_test test) v.now) result out.new }
+pub fn put_left(dropping: Dropping, v: &[u8], out: &mut [u8], at: usize) -> usize
+    requires { at + length (drop_from (drop_test dropping) v.now) ≤ length out.old }
+    ensures { Stored out.old at (drop_from (drop_test dropping) v.now) result out.new }
 {
-    let mut i = 0;
     let mut w = at;
-    while COMMUNITY_SIZE <= v.len() - i {
-        w = put_kept(test, &v[i..i + COMMUNITY_SIZE], out, w);
-        i += COMMUNITY_SIZE;
+    for c in v.chunks_exact(COMMUNITY_SIZE) {
+        w = put_kept(dropping, c, out, w);
     }
     w
 }
@@ -91,15 +87,12 @@ fn same_community(c: &[u8], d: &[u8]) -> bool
 }
 
 // Whether some bytes are the communities that are left of a value, and a tag of a state last. The value is walked and nothing is copied.
-pub fn same_left(test: u8, v: &[u8], state: u8, t: &[u8]) -> bool
-    ensures { result ≡ same_bytes (drop_from (drop_test test) v.now ++ tag_bytes state) t.now }
+pub fn same_left(dropping: Dropping, v: &[u8], state: u8, t: &[u8]) -> bool
+    ensures { result ≡ same_bytes (drop_from (drop_test dropping) v.now ++ tag_bytes state) t.now }
 {
-    let mut i = 0;
     let mut w = 0;
-    while COMMUNITY_SIZE <= v.len() - i {
-        let c = &v[i..i + COMMUNITY_SIZE];
-        i += COMMUNITY_SIZE;
-        if is_dropped(test, c) {
+    for c in v.chunks_exact(COMMUNITY_SIZE) {
+        if dropping.drops(c) {
             continue;
         }
         if t.len() - w < COMMUNITY_SIZE {

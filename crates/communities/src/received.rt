@@ -7,7 +7,7 @@ ghost use Rattle.communities.specs.Received.{greater};
 ghost use Rattle.communities.specs.Walks.{ReadMore};
 
 use super::findings::Tags;
-use super::tags::{ALL_TAGS, COMMUNITY_SIZE, is_erroneous, is_tag};
+use super::tags::{COMMUNITY_SIZE, Dropping, is_erroneous, is_tag};
 use settings::states::UNAVAILABLE;
 
 // The greater of a state told so far and a value; any value where none is told yet. Internal.
@@ -50,21 +50,18 @@ pub fn read_tags(v: &[u8]) -> Tags
         state: UNAVAILABLE,
         thrown_out: 0,
     };
-    let mut at = 0;
-    while COMMUNITY_SIZE <= v.len() - at {
-        tags = read_one(tags, &v[at..at + COMMUNITY_SIZE]);
-        at += COMMUNITY_SIZE;
+    for c in v.chunks_exact(COMMUNITY_SIZE) {
+        tags = read_one(tags, c);
     }
     tags
 }
 
-// The state that the tags left tell once some are dropped, by the number of the test that picks those. Where every tag is dropped no walk is
-// made: none is left.
-pub fn state_left(test: u8, v: &[u8]) -> u8
-    ensures { result ≡ tag_state (tag_values (drop_from (drop_test test) v.now)) }
+// The state that the tags left tell once some are dropped. Where every tag is dropped no walk is made: none is left.
+pub fn state_left(dropping: Dropping, v: &[u8]) -> u8
+    ensures { result ≡ tag_state (tag_values (drop_from (drop_test dropping) v.now)) }
 {
-    if test == ALL_TAGS {
-        return UNAVAILABLE;
+    match dropping {
+        Dropping::AllTags => UNAVAILABLE,
+        Dropping::ErroneousTags => read_tags(v).state,
     }
-    read_tags(v).state
 }

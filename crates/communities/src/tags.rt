@@ -18,10 +18,12 @@ pub const TAG_TYPE: u8 = 0x43;
 
 pub const TAG_SUBTYPE: u8 = 0;
 
-// The tests of which communities are dropped, as numbers to hand on: every tag is, or those above 2 alone.
-pub const ALL_TAGS: u8 = 0;
-
-pub const ERRONEOUS_TAGS: u8 = 1;
+// Which communities are dropped: every tag, or those above 2 alone (02, Q-11).
+#[derive(Clone, Copy, PartialEq, Eq)]
+pub enum Dropping {
+    AllTags,
+    ErroneousTags,
+}
 
 // Whether a community is a tag. Internal.
 pub fn is_tag(c: &[u8]) -> bool
@@ -45,15 +47,17 @@ pub fn is_erroneous(c: &[u8]) -> bool
     INVALID < c[7]
 }
 
-// Whether a community is dropped by the test of this number. Internal.
-pub fn is_dropped(test: u8, c: &[u8]) -> bool
-    requires { length c.now ≡ 8 }
-    ensures { result ≡ drop_test test c.now }
-{
-    if test == ALL_TAGS {
-        return is_tag(c);
+impl Dropping {
+    // Whether a community is dropped. Internal.
+    pub fn drops(self, c: &[u8]) -> bool
+        requires { length c.now ≡ 8 }
+        ensures { result ≡ drop_test self c.now }
+    {
+        match self {
+            Dropping::AllTags => is_tag(c),
+            Dropping::ErroneousTags => is_erroneous(c),
+        }
     }
-    is_erroneous(c)
 }
 
 // How many bytes a new tag has: none where the state is unavailable. Internal.

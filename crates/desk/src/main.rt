@@ -13,32 +13,23 @@ use desk_lines::{begin, feed, finish};
 use desk_memory::sizes::TABLES_MAX;
 use frames::sizes::RESULT_MAX;
 use input_lines::HELD_MAX;
+use std::io;
 use std::io::{Print, Read};
 
 // The bytes that are read, and written, at once at most.
 const PIECE_MAX: usize = 65536;
 
-// What handing over a piece gives: whether all that it says was written, and the state after it, with nothing left to write.
-#[derive(Clone, Copy)]
-struct Handed {
-    written: bool,
-    state: State,
-}
+// How many pieces are read at most: no run uses them up, and with pieces of `PIECE_MAX` bytes the line number does not wrap.
+const TURNS_MAX: u64 = 140737488355328;
 
 // The state with nothing left to write.
 fn emptied(state: State) -> State
     ensures { result ≡ emptied state }
 {
-    let kept = state.kept;
-    State {
-        number: state.number,
-        held: state.held,
-        wrote: 0,
-        kept,
-    }
+    State { wrote: 0, ..state }
 }
 
-// Hands a piece over, and writes what it says. A write that fails ends it.
+// Hands a piece over, writes what it says, and gives the state after it, with nothing left to write. A write that fails ends it.
 fn hand_over(
     piece: &[u8],
     state: State,
@@ -48,44 +39,30 @@ fn hand_over(
     tables: &mut [u8],
     out: &mut [u8],
     to: &impl Print,
-) -> Handed
+) -> io::Result<State>
     requires { (Ready state tables.old line.old) × (state.number + length piece.now < 2 ^ 64)
         × (Lent raw.old made.old out.old answer_max) × (state.wrote ≡ 0) }
-    ensures { HandedOver state tables.old line.old piece.now
-        result.written result.state tables.new line.new }
+    ensures { HandedOver state tables.old line.old piece.now result tables.new line.new }
 {
     let mut at = 0;
     let mut now = state;
+    // Each turn takes as many bytes as `feed` says: no iterator gives such parts.
     while at < piece.len() {
         let progress = feed(&piece[at..], now, line, raw, made, tables, out);
         at += progress.taken;
         let after = progress.state;
-        let wrote = after.wrote;
         now = emptied(after);
-        if to.write_all(&out[..wrote]).is_err() {
-            return Handed {
-                written: false,
-                state: now,
-            };
-        }
+        to.write_all(&out[..after.wrote])?;
     }
-    Handed {
-        written: true,
-        state: now,
-    }
+    Ok(now)
 }
 
 // Says that standard input can't be read.
 fn say_unread(to: &impl Print) {
-    let said = [
-        b'd', b'e', b's', b'k', b':', b' ', b'r', b'e', b'a', b'd', b' ', b'e', b'r', b'r', b'o',
-        b'r', b'\n',
-    ];
-    let _ = to.write_all(&said);
+    let _ = to.write_all(b"desk: read error\n");
 }
 
-// Answers standard input line by line. Nothing says that an input ends, so the turns are counted down from a number that no run
-// uses up.
+// Answers standard input line by line. Nothing says that an input ends, so the pieces are counted.
 fn main(rt: HostRuntime) {
     let to = rt.stdout();
     let mut from = rt.stdin();
@@ -96,19 +73,15 @@ fn main(rt: HostRuntime) {
     let mut tables = [0u8; TABLES_MAX];
     let mut out = [0u8; PIECE_MAX];
     let mut state = begin();
-    let mut turns: u64 = 140737488355328;
-    while 0 < turns {
-        let n = match from.read(&mut chunk) {
-            Ok(n) => n,
-            Err(_) => {
-                say_unread(&rt.stderr());
-                return;
-            }
+    for _ in 0..TURNS_MAX {
+        let Ok(n) = from.read(&mut chunk) else {
+            say_unread(&rt.stderr());
+            return;
         };
         if n == 0 {
             break;
         }
-        let handed = hand_over(
+        let Ok(after) = hand_over(
             &chunk[..n],
             state,
             &mut line,
@@ -117,12 +90,10 @@ fn main(rt: HostRuntime) {
             &mut tables,
             &mut out,
             &to,
-        );
-        if !handed.written {
+        ) else {
             return;
-        }
-        state = handed.state;
-        turns -= 1;
+        };
+        state = after;
     }
     let wrote = finish(state, &line, &mut raw, &mut made, &mut tables, &mut out);
     let _ = to.write_all(&out[..wrote]);

@@ -13,7 +13,7 @@ use Rattle.octets.proofs.Writing.{stored-front}
 use Rattle.input_lines.specs.Feeding.{Runs, finished as ended, fed}
 use Rattle.input_lines.proofs.Feeding.{run_says}
 use Rattle.desk_lines.specs.declared.state.State.{State}
-use Rattle.desk_memory.specs.Keeping.{desk_of}
+use Rattle.desk_memory.specs.Keeping.{desk_of, told_session}
 use Rattle.desk_lines.specs.Machine.{desk_says, desk_next, turn_of, begun, future, Run, finished, consumed}
 
 -- The definition's fold over lines is the step's.
@@ -38,6 +38,6 @@ run-feeds _ _ _ _ _ (consumed s tables line piece s' tables' line' pieces last c
 
 -- However the input is cut into pieces, what a run says is the definition's output.
 pub run-desk : (tables line : List ℕ) (pieces : List (List ℕ)) (output : List ℕ) → Run begun tables line pieces output → output ≡ desk (flatten pieces)
-unfolding begun turn_of desk_of vrps chop chop_up_to desk new_desk
+unfolding begun turn_of desk_of told_session vrps chop chop_up_to desk new_desk
 run-desk tables line pieces output r =
     run_says (turn_of begun tables) [] pieces output (run-feeds begun tables line pieces output r) ∙ sym (desk-said 1 new_desk (lines (flatten pieces)))

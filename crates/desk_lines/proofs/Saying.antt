@@ -9,15 +9,16 @@ use lib.ListN.{length}
 use Rattle.rules.specs.Answers.{Answer, done, refused, answer_number}
 use Rattle.rules.specs.Text.{from_hex, readable_line, to_hex, dash, space, line_feed, decimal}
 use Rattle.rules.specs.Desk.{shown_result, output_line, frame_answer, frame_next, line_answer, line_field, line_next}
-use Rattle.frames.specs.declared.reply.Reply.{Reply}
-use Rattle.frames.specs.declared.reply.Reply.TheVariants.{Bytes, Refused}
+use Rattle.std.specs.Prelude.{Result, Ok, Err}
+use Rattle.std.specs.Result.{is_ok}
 use Rattle.frames.specs.declared.reply.Outcome.{Outcome}
+use Rattle.rules.specs.declared.Refusal.{Refusal}
 use Rattle.rules.specs.declared.Refusal.TheVariants.{Unreadable}
 use Rattle.octets.specs.Buffer.{Stored}
 use Rattle.desk_memory.specs.declared.kept.Kept.{Kept}
 use Rattle.desk_lines.specs.declared.state.State.{State}
 use Rattle.desk_lines.specs.Sizes.{answer_max}
-use Rattle.frames.specs.Replying.{replied, Replies, is_done, was_done}
+use Rattle.frames.specs.Replying.{replied, Replies, was_done}
 use Rattle.desk_memory.specs.Keeping.{desk_of, TellsFrame, Keeps}
 use Rattle.desk_lines.specs.Machine.{desk_says, desk_next, turn_of, shown_answer, told_line, Answered}
 
@@ -77,9 +78,9 @@ module _ (s : State) (tables line : List ℕ) {out out' : List ℕ} {wrote : ℕ
         }
 
 -- Whether a reply is 0 is whether the answer is.
-pub reply_agrees : {a : Answer (List ℕ)} {made : List ℕ} {reply : Reply} {taken : Bool} → Replies a made reply → taken ≡ is_done reply → was_done a ≡ taken
+pub reply_agrees : {a : Answer (List ℕ)} {made : List ℕ} {reply : Result ℕ Refusal} {taken : Bool} → Replies a made reply → taken ≡ is_ok reply → was_done a ≡ taken
 reply_agrees {a} {made} {reply} R e = ap was_done (sym R.is) ∙ same reply ∙ sym e
   where
-    same : (reply : Reply) → was_done (replied made reply) ≡ is_done reply
-    same (Bytes n) = unfold was_done replied is_done in refl
-    same (Refused r) = unfold was_done replied is_done in refl
+    same : (reply : Result ℕ Refusal) → was_done (replied made reply) ≡ is_ok reply
+    same (Ok n) = unfold was_done replied in refl
+    same (Err r) = unfold was_done replied in refl

@@ -1,8 +1,8 @@
 -- The byte machine: what it still owes, and what each call promises. "What has been written plus what the rest of the input will
 -- give equals the definition of the whole input."
-use Rattle.std.specs.Prelude.{ℕ, suc, ◌+◌, ◌≤◌, ◌<◌, ◌≡◌, Bool, true, false, List, [], ◌∷◌, ◌++◌, length, take}
+use Rattle.std.specs.Prelude.{ℕ, suc, ◌+◌, ◌≤◌, ◌<◌, ◌≡◌, List, [], ◌∷◌, ◌++◌, length, take, Result, None}
+use Rattle.std.specs.Result.{IfOk}
 use Rattle.rules.specs.Answers.{Answer, answer_number}
-use Rattle.rules.specs.Settings.{session_of}
 use Rattle.rules.specs.Text.{lines, said_from, space, decimal}
 use Rattle.rules.specs.Desk.{Desk, output_line, shown_result, line_answer, line_field, line_next}
 use Rattle.octets.specs.Buffer.{Stored}
@@ -46,7 +46,7 @@ begun =
       number = 0;
       held = 0;
       wrote = 0;
-      kept = record { used = 0; used6 = 0; live = false; session = session_of 0 0 0 0 0 };
+      kept = record { used = 0; used6 = 0; session = None };
     }
 
 unfoldable pub turn_of : State → List ℕ → Turn
@@ -102,12 +102,13 @@ pub record Progressed (s : State) (tables line out piece : List ℕ) (r : Progre
 abbrev pub emptied : State → State
 emptied s = record { number = s.number; held = s.held; wrote = 0; kept = s.kept }
 
--- What handing a piece over promises: the machine is ready, with nothing left to write; where all was written, the whole piece is
--- consumed.
-pub record HandedOver (s : State) (tables line piece : List ℕ) (written : Bool) (s' : State) (tables' line' : List ℕ) : Type 0 where
-  pub whole : written ≡ true → Consumed s tables line piece s' tables' line'
-  pub ready : Ready s' tables' line'
-  pub empty : s'.wrote ≡ 0
+-- What handing a piece over promises: the machine is ready, with nothing left to write; where all was written, its state is handed back,
+-- and the whole piece is consumed.
+pub record HandedOver {E : Type 0} (s : State) (tables line piece : List ℕ) (handed : Result State E) (tables' line' : List ℕ) : Type 0 where
+  pub state : State
+  pub whole : IfOk handed (λ s'. (s' ≡ state) × Consumed s tables line piece state tables' line')
+  pub ready : Ready state tables' line'
+  pub empty : state.wrote ≡ 0
 
 -- ---- Runs
 

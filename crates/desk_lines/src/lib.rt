@@ -15,7 +15,6 @@ ghost use Rattle.desk_lines.specs.Machine.{Ready, Lent, Progressed, begun, futur
 use desk_memory::kept::Kept;
 use input_lines::cut_line;
 use lines::answer_line;
-use settings::sessions::session_of;
 use sizes::ANSWER_MAX;
 use state::{Progress, State};
 
@@ -26,8 +25,7 @@ pub fn begin() -> State
     let kept = Kept {
         used: 0,
         used6: 0,
-        live: false,
-        session: session_of(0, 0, 0, 0, 0),
+        session: None,
     };
     State {
         number: 0,
@@ -59,13 +57,7 @@ fn feed_line(
         let state = answer_line(state, &line[..held], raw, made, tables, out);
         return Progress { taken, state };
     }
-    let kept = state.kept;
-    let state = State {
-        number: state.number,
-        held,
-        wrote: state.wrote,
-        kept,
-    };
+    let state = State { held, ..state };
     Progress { taken, state }
 }
 
@@ -87,6 +79,7 @@ pub fn feed(
 {
     let mut at = 0;
     let mut now = state;
+    // Each turn takes as many bytes as the line has, and how many were taken is told: no iterator gives such parts.
     while at < piece.len() {
         let wrote = now.wrote;
         if out.len() - wrote < ANSWER_MAX {

@@ -5,13 +5,13 @@ ghost use Rattle.rules.specs.Desk.{shown_result};
 ghost use Rattle.octets.specs.Buffer.{Stored};
 ghost use Rattle.frames.specs.Sizes.{result_max};
 ghost use Rattle.desk_lines.specs.Sizes.{field_max, answer_max};
-ghost use Rattle.frames.specs.Replying.{replied, Within, shown_field, is_done};
+ghost use Rattle.frames.specs.Replying.{replied, Within, shown_field};
 ghost use Rattle.desk_memory.specs.Keeping.{Keeps};
 ghost use Rattle.desk_lines.specs.Machine.{Lent, Answered, shown_answer, told_line};
 
 use super::state::State;
 use desk_memory::{answer_frame, keep_frame};
-use frames::reply::{Field, Outcome, Reply, plain};
+use frames::reply::{Field, Outcome, plain};
 use input_lines::LINE_FEED;
 use octets::buffer::{put, put_byte};
 use rules::Refusal;
@@ -19,38 +19,34 @@ use settings::answers::refusal_number;
 use text::decimal::put_decimal;
 use text::hex::{put_hex, read_line};
 
-// The characters of a line that goes out, beside digits.
-const SPACE: u8 = 32;
+// Characters of a line that goes out.
+const SPACE: u8 = b' ';
 
-const DASH: u8 = 45;
-
-const ZERO: u8 = 48;
+const DASH: u8 = b'-';
 
 // Stores a result of answer 0, in hex, or a dash where there is no byte to show. Internal.
 fn put_result(res: &[u8], out: &mut [u8], at: usize) -> usize
     requires { (length res.now ≤ result_max) × (at + 2 * result_max ≤ length out.old) }
     ensures { (Stored out.old at (shown_result (done res.now)) result out.new) × (result ≤ at + 2 * result_max) }
 {
-    if res.len() == 0 {
+    if res.is_empty() {
         return put_byte(DASH, out, at);
     }
     put_hex(res, out, at)
 }
 
 // Stores an answer: its number, and its result or a dash. Internal.
-fn put_reply(reply: Reply, made: &[u8], out: &mut [u8], at: usize) -> usize
+fn put_reply(reply: Result<usize, Refusal>, made: &[u8], out: &mut [u8], at: usize) -> usize
     requires { (Within made.now reply) × (at + 2 * result_max + 2 ≤ length out.old) }
     ensures { (Stored out.old at (shown_answer (replied made.now reply)) result out.new) × (result ≤ at + 2 * result_max + 2) }
 {
     match reply {
-        Reply::Refused(refusal) => {
+        Err(refusal) => {
             let w = put_decimal(refusal_number(refusal) as u64, out, at);
-            let dash = [SPACE, DASH];
-            put(&dash, out, w)
+            put(b" -", out, w)
         }
-        Reply::Bytes(n) => {
-            let zero = [ZERO, SPACE];
-            let w = put(&zero, out, at);
+        Ok(n) => {
+            let w = put(b"0 ", out, at);
             put_result(&made[..n], out, w)
         }
     }
@@ -63,10 +59,7 @@ fn put_field(field: Field, out: &mut [u8], at: usize) -> usize
 {
     match field {
         Field::Absent => at,
-        Field::Dash => {
-            let dash = [SPACE, DASH];
-            put(&dash, out, at)
-        }
+        Field::Dash => put(b" -", out, at),
         Field::Number(n) => {
             let w = put_byte(SPACE, out, at);
             put_decimal(n as u64, out, w)
@@ -79,23 +72,11 @@ fn put_line(number: u64, outcome: Outcome, made: &[u8], out: &mut [u8], at: usiz
     requires { (Within made.now outcome.reply) × (at + answer_max ≤ length out.old) }
     ensures { (Stored out.old at (told_line number made.now outcome) result out.new) × (result ≤ at + answer_max) }
 {
-    let reply = outcome.reply;
-    let field = outcome.field;
     let v = put_decimal(number, out, at);
     let w = put_byte(SPACE, out, v);
-    let x = put_reply(reply, made, out, w);
-    let y = put_field(field, out, x);
+    let x = put_reply(outcome.reply, made, out, w);
+    let y = put_field(outcome.field, out, x);
     put_byte(LINE_FEED, out, y)
-}
-
-// Whether an answer is 0.
-fn is_done(reply: Reply) -> bool
-    ensures { result ≡ is_done reply }
-{
-    match reply {
-        Reply::Refused(refusal) => false,
-        Reply::Bytes(n) => true,
-    }
 }
 
 // Answers a line. What `raw` and `made` hold afterwards is of no account. Internal.
@@ -112,22 +93,20 @@ pub fn answer_line(
 {
     let number = state.number + 1;
     let at = state.wrote;
-    let kept = state.kept;
     if !read_line(line, raw) {
-        let unreadable = plain(Reply::Refused(Refusal::Unreadable));
+        let unreadable = plain(Err(Refusal::Unreadable));
         let wrote = put_line(number, unreadable, made, out, at);
         return State {
             number,
             held: 0,
             wrote,
-            kept,
+            ..state
         };
     }
     let frame = &raw[..line.len() / 2];
-    let outcome = answer_frame(kept, tables, frame, made);
+    let outcome = answer_frame(state.kept, tables, frame, made);
     let wrote = put_line(number, outcome, made, out, at);
-    let reply = outcome.reply;
-    let kept = keep_frame(kept, frame, is_done(reply), tables);
+    let kept = keep_frame(state.kept, frame, outcome.reply.is_ok(), tables);
     State {
         number,
         held: 0,

@@ -1,12 +1,14 @@
 -- What the desk keeps as the definition's desk.
-use Rattle.std.specs.Prelude.{ℕ, ◌%◌, ◌≤◌, ◌≡◌, Bool, cond, ◌||◌, List, eqb, length, take, drop}
-use Rattle.std.proofs.Math.Option.{none, some}
+use Rattle.std.specs.Prelude.{ℕ, ◌%◌, ◌≤◌, ◌≡◌, Bool, cond, List, length, take, drop, Some, None}
+use Rattle.std.specs.Prelude as std
+use Rattle.std.proofs.Math.Option.{Option, none, some}
 use Rattle.rules.specs.Origin.{ipv4, ipv6, vrp_size, vrps}
-use Rattle.rules.specs.Desk.{Desk, receipt_kind, receipt6_kind, session_in, frame_answer, frame_field, frame_next}
-use Rattle.rules.specs.declared.Refusal.TheVariants.{Unreadable}
+use Rattle.rules.specs.Desk.{Desk, session_in, frame_answer, frame_field, frame_next}
+use Rattle.rules.specs.declared.Session.{Session}
 use Rattle.vrp_tables.specs.Scan.{GoodTable}
-use Rattle.frames.specs.Replying.{Tells, plain, dashed, was_done}
-use Rattle.frames.specs.declared.reply.Reply.TheVariants.{Refused}
+use Rattle.desk_memory.specs.declared.kinds.Ip.{Ip}
+use Rattle.desk_memory.specs.declared.kinds.Ip.TheVariants.{V4, V6}
+use Rattle.frames.specs.Replying.{Tells, was_done}
 use Rattle.frames.specs.declared.reply.Outcome.{Outcome}
 use Rattle.desk_memory.specs.declared.kept.Kept.{Kept}
 use Rattle.desk_memory.specs.Sizes.{table_max, tables_max}
@@ -18,11 +20,25 @@ memory4 tables = take (table_max ipv4) tables
 abbrev pub memory6 : List ℕ → List ℕ
 memory6 tables = drop (table_max ipv4) tables
 
+abbrev pub memory_of : Ip → List ℕ → List ℕ
+memory_of V4 tables = memory4 tables
+memory_of V6 tables = memory6 tables
+
+-- How many bytes of a family's table are used.
+abbrev pub used_of : Ip → Kept → ℕ
+used_of V4 k = k.used
+used_of V6 k = k.used6
+
+-- The code's option says the session in force, or none.
+unfoldable pub told_session : std.Option Session → Option Session
+told_session (Some s) = some s
+told_session None = none
+
 -- The session in force, and the VRPs of as many bytes of each table as are used.
 unfoldable pub desk_of : Kept → List ℕ → Desk
 desk_of k tables =
     record {
-      session = cond k.live (some k.session) none;
+      session = told_session k.session;
       table = vrps ipv4 (take k.used (memory4 tables));
       table6 = vrps ipv6 (take k.used6 (memory6 tables));
     }
@@ -40,13 +56,6 @@ pub record Keeps (k : Kept) (tables : List ℕ) : Type 0 where
   pub four : TableKept ipv4 k.used (memory4 tables)
   pub six : TableKept ipv6 k.used6 (memory6 tables)
 
--- Whether a frame that begins so is a receipt, and what is told of one that is not answered.
-unfoldable pub is_receipt : ℕ → Bool
-is_receipt kind = eqb kind receipt_kind || eqb kind receipt6_kind
-
-unfoldable pub unreadable : ℕ → Outcome
-unreadable kind = cond (is_receipt kind) (dashed Unreadable) (plain (Refused Unreadable))
-
 -- What is told of a frame is its answer and its fourth field.
 abbrev pub TellsFrame : Desk → List ℕ → List ℕ → Outcome → Type 0
 TellsFrame d f made outcome = Tells (frame_answer d f) (frame_field f (frame_answer d f)) made outcome
@@ -57,7 +66,7 @@ Agrees d f taken = was_done (frame_answer d f) ≡ taken
 
 -- What is kept after a session frame: its session, if it was taken, else none.
 unfoldable pub kept_session : Kept → List ℕ → Bool → Kept
-kept_session k f taken = record { used = k.used; used6 = k.used6; live = taken; session = cond taken (session_in f) k.session }
+kept_session k f taken = record { used = k.used; used6 = k.used6; session = cond taken (Some (session_in f)) None }
 
 -- What is kept after a frame is what the definition says, and the tables stay good.
 pub record KeptNext (k : Kept) (table f : List ℕ) (k' : Kept) (table' : List ℕ) : Type 0 where

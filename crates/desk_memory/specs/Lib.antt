@@ -1,3 +1,4 @@
--- The sizes of the desk's tables, and what the desk keeps.
+-- The sizes of the desk's tables, the kinds of frames, and what the desk keeps.
 pub mod Sizes
+pub mod Kinds
 pub mod Keeping

@@ -1,7 +1,6 @@
 // The sizes of the desk's tables. The contracts name the same in specs/Sizes.antt: a constant of the language is not seen there.
 use rules::VRPS_MAX;
-use vrps::AFTER_PREFIX;
-use vrps::prefixes::{IPV4, IPV6};
+use vrps::prefixes::{AFTER_PREFIX, IPV4, IPV6};
 
 // The bytes of the longest table of IPv4 VRPs.
 pub const TABLE_MAX: usize = VRPS_MAX * (IPV4 / 8 + AFTER_PREFIX);

@@ -7,8 +7,9 @@ use native.Mathlib.Omega.{arith}
 use borrow.Author.Tests.{lt-ltb, le-ltb}
 use lib.ListN.{length, take, drop, set, get_or, length-append, length-take, length-drop, length-set}
 use lib.Seq.{take-append_seam, take-append-le}
+use Rattle.std.specs.Prelude.{Result, Ok, Err}
 use Rattle.rules.specs.Bytes.{over, one_of, exists, big_endian, part}
-use Rattle.rules.specs.Answers.{Answer, done, refused, answer, order, first, number, ◌when◌, refusals, result_or, sized, stored}
+use Rattle.rules.specs.Answers.{Answer, done, refused, answer, order, first, number, ◌when◌, refusals, result_or, sized, stored, told}
 use Rattle.rules.specs.Settings.{block_max, session_ok, prefix_length_ok, local_as}
 use Rattle.rules.specs.Roles.{counterpart, open_checks, open_session}
 use Rattle.rules.specs.Attributes.{Attribute, attributes, encode, readable, value_of, segments, as_path_type}
@@ -20,7 +21,6 @@ use Rattle.rules.specs.Desk.{session_head, session_in, session_frame, receipt_fr
 use Rattle.rules.specs.declared.Refusal.{Refusal}
 use Rattle.rules.specs.declared.Refusal.TheVariants.{BadSetting, NoRoom, Unreadable}
 use Rattle.rules.specs.declared.Session.{Session}
-use Rattle.frames.specs.declared.reply.Reply.TheVariants.{Bytes, Refused}
 use Rattle.rules.proofs.Answers.{Passed, earlier, here, past, answer-decided, answer-refused, order-whole}
 use Rattle.rules.proofs.Buffers.{fitted-fits, sized-refused, leaves_alone}
 use Rattle.attributes.specs.Layout.{layout, value_at}
@@ -28,7 +28,7 @@ use Rattle.attributes.proofs.Found.{value_of_lem}
 use Rattle.frames.specs.Sizes.{result_max}
 use Rattle.frames.specs.Replying.{replied, Replies}
 
-pub replies-refused : {a : Answer (List ℕ)} (made : List ℕ) {r : Refusal} → a ≡ refused r → Replies a made (Refused r)
+pub replies-refused : {a : Answer (List ℕ)} (made : List ℕ) {r : Refusal} → a ≡ refused r → Replies a made (Err r)
 unfolding replied
 replies-refused made e = record { is = sym e; within = tt }
 
@@ -80,12 +80,12 @@ receive-later s b room r e = fitted-later (receipt_verdict s b) room r decided e
 -- ---- Session
 
 module _ (f made : List ℕ) where
-  pub session-short : length f < session_head → Replies (session_frame f) made (Refused Unreadable)
+  pub session-short : length f < session_head → Replies (session_frame f) made (Err Unreadable)
   unfolding session_frame answer order first number
   session-short h = replies-refused made (rw (lt-ltb (length f) session_head h) refl)
 
   module _ (h : session_head ≤ length f) where
-    pub session_setting : session_ok (session_in f) ≡ false → Replies (session_frame f) made (Refused BadSetting)
+    pub session_setting : session_ok (session_in f) ≡ false → Replies (session_frame f) made (Err BadSetting)
     unfolding session_frame
     session_setting e =
         replies-refused made
@@ -93,7 +93,7 @@ module _ (f made : List ℕ) where
         (through_setting (open_session (get_or f 9 0) (get_or f 10 0) (drop session_head f)) (open_later (get_or f 9 0) (get_or f 10 0) (drop session_head f)) _))
 
     module _ (ok : session_ok (session_in f) ≡ true) where
-      pub session-refused : {r : Refusal} → refused r ≡ open_session (get_or f 9 0) (get_or f 10 0) (drop session_head f) → Replies (session_frame f) made (Refused r)
+      pub session-refused : {r : Refusal} → refused r ≡ open_session (get_or f 9 0) (get_or f 10 0) (drop session_head f) → Replies (session_frame f) made (Err r)
       unfolding session_frame
       session-refused e = replies-refused made (rw (le-ltb (length f) session_head h, ok) (through_both (sym e) _))
 
@@ -102,7 +102,7 @@ module _ (f made : List ℕ) where
       session-is e = rw (le-ltb (length f) session_head h, ok, ← e) refl
 
       pub session-opened : {role : ℕ} → length made ≡ result_max → done role ≡ open_session (get_or f 9 0) (get_or f 10 0) (drop session_head f)
-          → Replies (session_frame f) (set made 0 role) (Bytes 1)
+          → Replies (session_frame f) (set made 0 role) (Ok 1)
       unfolding replied
       session-opened {role} k e =
           record { is = rw (session-is e) (go made k); within = (omega (arith, length-set made 0 role, k), omega arith) }
@@ -150,7 +150,7 @@ tail_long made k = simp (length-take, length-drop) (omega arith)
 -- ---- Sending
 
 module _ (s : Session) (f made : List ℕ) where
-  pub sending_short : length f < 3 → Replies (sending_frame s f) made (Refused Unreadable)
+  pub sending_short : length f < 3 → Replies (sending_frame s f) made (Err Unreadable)
   unfolding sending_frame answer order first number
   sending_short h = replies-refused made (rw (lt-ltb (length f) 3 h) refl)
 
@@ -162,12 +162,12 @@ module _ (s : Session) (f made : List ℕ) where
 
     module _ {b before after : List ℕ} {told : Answer ℕ} (e : b ≡ drop 3 f) (k : length before ≡ block_max)
         (p : Leaves (sending_verdict s (get_or f 1 0) (get_or f 2 0) b) before told after) where
-      pub sending_refused : {r : Refusal} → told ≡ refused r → Replies (sending_frame s f) made (Refused r)
+      sending_refused : {r : Refusal} → told ≡ refused r → Replies (sending_frame s f) made (Err r)
       unfolding send_write
       sending_refused {r} z =
           replies-refused made (sending_is (refused r) (rw (← e) (leaves-refused {decided = sending_verdict s (get_or f 1 0) (get_or f 2 0) b} k p z)))
 
-      pub sending_done : {n : ℕ} → told ≡ done n → Replies (sending_frame s f) (after ++ made) (Bytes n)
+      sending_done : {n : ℕ} → told ≡ done n → Replies (sending_frame s f) (after ++ made) (Ok n)
       unfolding send_write replied
       sending_done {n} z =
           let q = leaves-done {decided = sending_verdict s (get_or f 1 0) (get_or f 2 0) b} k p z in
@@ -176,15 +176,22 @@ module _ (s : Session) (f made : List ℕ) where
             within = (omega (arith, q.fits, q.size, length-append after made), omega (arith, q.fits));
           }
 
+-- Whatever the call of sending told.
+module _ (s : Session) (f made : List ℕ) (h : 3 ≤ length f) {b before after : List ℕ} (e : b ≡ drop 3 f) (k : length before ≡ block_max) where
+  pub sending_told : (r : Result ℕ Refusal) → Leaves (sending_verdict s (get_or f 1 0) (get_or f 2 0) b) before (told r) after → Replies (sending_frame s f) (after ++ made) r
+  unfolding told
+  sending_told (Ok n) p = sending_done s f made h e k p refl
+  sending_told (Err x) p = sending_refused s f (after ++ made) h e k p refl
+
 -- ---- Receipt
 
 module _ (w : ℕ) (s : Session) (table f : List ℕ) where
-  pub receipt-short : (made : List ℕ) → length f < 2 + w / 8 → Replies (receipt_frame w s (vrps w table) f) made (Refused Unreadable)
+  pub receipt-short : (made : List ℕ) → length f < 2 + w / 8 → Replies (receipt_frame w s (vrps w table) f) made (Err Unreadable)
   unfolding receipt_frame answer order first number
   receipt-short made h = replies-refused made (rw (lt-ltb (length f) (2 + w / 8) h) refl)
 
   module _ (h : 2 + w / 8 ≤ length f) where
-    pub receipt_setting : (made : List ℕ) → prefix_length_ok w (get_or f 1 0) ≡ false → Replies (receipt_frame w s (vrps w table) f) made (Refused BadSetting)
+    pub receipt_setting : (made : List ℕ) → prefix_length_ok w (get_or f 1 0) ≡ false → Replies (receipt_frame w s (vrps w table) f) made (Err BadSetting)
     unfolding receipt_frame
     receipt_setting made q =
         replies-refused made
@@ -192,7 +199,7 @@ module _ (w : ℕ) (s : Session) (table f : List ℕ) where
 
     module _ (q : prefix_length_ok w (get_or f 1 0) ≡ true) {b before after : List ℕ} (e : b ≡ drop (2 + w / 8) f) (k : length before ≡ block_max)
         {told : Answer ℕ} (p : Leaves (receipt_verdict s b) before told after) where
-      pub receipt-refused : (made : List ℕ) {r : Refusal} → told ≡ refused r → Replies (receipt_frame w s (vrps w table) f) made (Refused r)
+      pub receipt-refused : (made : List ℕ) {r : Refusal} → told ≡ refused r → Replies (receipt_frame w s (vrps w table) f) made (Err r)
       unfolding receipt_frame receive
       receipt-refused made {r} z =
           replies-refused made
@@ -217,7 +224,7 @@ module _ (w : ℕ) (s : Session) (table f : List ℕ) where
               rw (le-ltb (length f) (2 + w / 8) h, q, i, x, pre, o) refl
 
           pub receipt-done : (made rest : List ℕ) → length made ≡ result_max
-              → Replies (receipt_frame w s (vrps w table) f) (set (take 1 made ++ (after ++ rest)) 0 state) (Bytes (1 + n))
+              → Replies (receipt_frame w s (vrps w table) f) (set (take 1 made ++ (after ++ rest)) 0 state) (Ok (1 + n))
           unfolding replied
           receipt-done [] rest l = absurd (omega arith)
           receipt-done (y ∷ m) rest l =

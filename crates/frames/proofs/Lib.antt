@@ -1,4 +1,5 @@
--- Laws of frames, of VRP frames, and of the fourth field.
+-- Laws of frames, of VRP frames, of the fourth field, and of receipt frames once receipt has answered.
 pub mod Framing
 pub mod Tabling
 pub mod Fields
+pub mod Receiving

@@ -5,23 +5,23 @@ ghost use Rattle.rules.specs.Origin.{Vrp, vrp_size, vrps};
 ghost use Rattle.rules.specs.Desk.{session_head, session_in, session_frame, sending_frame, vrp_frame};
 ghost use Rattle.vrp_tables.specs.Scan.{GoodTable};
 ghost use Rattle.frames.specs.Sizes.{result_max};
-ghost use Rattle.vrps.specs.Widths.{Whole};
+ghost use Rattle.vrps.specs.Widths.{bits};
 ghost use Rattle.frames.specs.Replying.{Replies, TellsReceipt};
 
-use super::reply::{Outcome, Reply, dashed, numbered};
+use super::reply::{Outcome, dashed, numbered};
 use as_path::path_origin;
 use attributes::value;
 use octets::number4;
 use opening::open_session;
-use policy::placed::Placed;
 use policy::receive_placed;
 use policy::write::send_write;
-use rules::{Advertised, BLOCK_MAX, Opened, Refusal, Session, VRPS_MAX};
+use rules::{BLOCK_MAX, Declined, Refusal, Session, VRPS_MAX};
 use settings::ranges::{prefix_length_ok, session_ok};
 use settings::sessions::session_of;
 use vrp_tables::parts::scan_parts;
+use vrps::bad_vrp;
+use vrps::family::Family;
 use vrps::prefixes::words;
-use vrps::{AFTER_PREFIX, bad_vrp};
 
 // The least bytes of a session frame and of a sending frame.
 const SESSION_MIN: usize = 13;
@@ -43,112 +43,92 @@ pub fn session_in(frame: &[u8]) -> Session
 }
 
 // 01, session, with the OPEN's parameters after the settings; its result is the remote role. Internal.
-pub fn session_frame(frame: &[u8], made: &mut [u8]) -> Reply
+pub fn session_frame(frame: &[u8], made: &mut [u8]) -> Result<usize, Refusal>
     requires { length made.old ≡ result_max }
     ensures { Replies (session_frame frame.now) made.new result }
 {
     if frame.len() < SESSION_MIN {
-        return Reply::Refused(Refusal::Unreadable);
+        return Err(Refusal::Unreadable);
     }
     if !session_ok(session_in(frame)) {
-        return Reply::Refused(Refusal::BadSetting);
+        return Err(Refusal::BadSetting);
     }
-    let opened = open_session(&frame[SESSION_MIN..], frame[9], frame[10]);
-    match opened {
-        Opened::Refused(refusal) => {
-            return Reply::Refused(refusal);
-        }
-        Opened::Role(role) => {
-            made[0] = role;
-            Reply::Bytes(1)
-        }
-    }
+    let role = open_session(&frame[SESSION_MIN..], frame[9], frame[10])?;
+    made[0] = role;
+    Ok(1)
 }
 
 // 02 and 12, receipt: prefix length, prefix of so many bits, block; its result is the state, found after the verdict, and the block. The
 // fourth field is how many tags of the block are thrown out. The state is the table's, though it is empty, never one that tags tell. Internal.
 pub fn receipt_frame(
-    width: usize,
+    family: Family,
     session: Session,
     table: &[u8],
     frame: &[u8],
     made: &mut [u8],
 ) -> Outcome
-    requires { (Whole width) × (GoodTable width table.now) × (length made.old ≡ result_max) }
-    ensures { TellsReceipt width session (vrps width table.now) frame.now made.new result }
+    requires { (GoodTable (bits family) table.now) × (length made.old ≡ result_max) }
+    ensures { TellsReceipt (bits family) session (vrps (bits family) table.now) frame.now made.new result }
 {
-    let head = 2 + width / 8;
+    let head = 2 + family.octets();
     if frame.len() < head {
         return dashed(Refusal::Unreadable);
     }
     let len = frame[1];
-    if !prefix_length_ok(width, len) {
+    if !prefix_length_ok(family.bits, len) {
         return dashed(Refusal::BadSetting);
     }
     let block = &frame[head..];
-    let placed = receive_placed(session, block, &mut made[1..]);
-    match placed {
-        Placed::Refused(refusal) => {
-            return dashed(refusal);
+    match receive_placed(session, block, &mut made[1..]) {
+        Err(Declined::Refused(refusal)) => dashed(refusal),
+        Err(Declined::Ineligible { rule, thrown_out }) => {
+            numbered(Err(Refusal::Ineligible(rule)), thrown_out)
         }
-        Placed::Ineligible { rule, thrown_out } => {
-            return numbered(Reply::Refused(Refusal::Ineligible(rule)), thrown_out);
-        }
-        Placed::Block {
-            length,
-            as_path,
-            thrown_out,
-            state,
-        } => {
-            let origin = path_origin(value(block, as_path), session.local_as);
+        Ok(placed) => {
+            let origin = path_origin(value(block, placed.as_path), session.local_as);
             let prefix = words(&frame[2..head]);
-            let found = scan_parts(width, table, prefix, len, origin);
+            let found = scan_parts(family, table, prefix, len, origin);
             made[0] = found;
-            numbered(Reply::Bytes(1 + length), thrown_out)
+            numbered(Ok(1 + placed.length), placed.thrown_out)
         }
     }
 }
 
 // 03, sending: source, state, block; its result is the block. There is room for any result, so that its length is not asked first (02, Q-6).
 // Internal.
-pub fn sending_frame(session: Session, frame: &[u8], made: &mut [u8]) -> Reply
+pub fn sending_frame(session: Session, frame: &[u8], made: &mut [u8]) -> Result<usize, Refusal>
     requires { length made.old ≡ result_max }
     ensures { Replies (sending_frame session frame.now) made.new result }
 {
     if frame.len() < SENDING_MIN {
-        return Reply::Refused(Refusal::Unreadable);
+        return Err(Refusal::Unreadable);
     }
-    let sent = send_write(
+    send_write(
         session,
         frame[1],
         frame[2],
         &frame[SENDING_MIN..],
         &mut made[..BLOCK_MAX],
-    );
-    match sent {
-        Advertised::Refused(refusal) => Reply::Refused(refusal),
-        Advertised::Block(length) => Reply::Bytes(length),
-    }
+    )
 }
 
 // 04 and 14, one VRP with a prefix of so many bits, where `used` bytes of its table hold those taken before; it has no result to show.
 // Internal.
-pub fn vrp_frame(width: usize, used: usize, frame: &[u8], made: &[u8]) -> Reply
-    requires { Whole width }
-    ensures { (held : List Vrp) → used ≡ vrp_size width * length held → Replies (vrp_frame width held frame.now) made.now result }
+pub fn vrp_frame(family: Family, used: usize, frame: &[u8], made: &[u8]) -> Result<usize, Refusal>
+    ensures { (held : List Vrp) → used ≡ vrp_size (bits family) * length held → Replies (vrp_frame (bits family) held frame.now) made.now result }
 {
-    let size = width / 8 + AFTER_PREFIX;
+    let size = family.record_size();
     if frame.len() < 1 + size {
-        return Reply::Refused(Refusal::Unreadable);
+        return Err(Refusal::Unreadable);
     }
     if 1 + size < frame.len() {
-        return Reply::Refused(Refusal::BadLength);
+        return Err(Refusal::BadLength);
     }
     if VRPS_MAX * size <= used {
-        return Reply::Refused(Refusal::BadLength);
+        return Err(Refusal::BadLength);
     }
-    if bad_vrp(width, &frame[1..]) {
-        return Reply::Refused(Refusal::BadVrp(0));
+    if bad_vrp(family.bits, &frame[1..]) {
+        return Err(Refusal::BadVrp(0));
     }
-    Reply::Bytes(0)
+    Ok(0)
 }

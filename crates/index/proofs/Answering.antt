@@ -11,7 +11,9 @@ use lib.Dec.{ltb}
 use lib.ListN.{length, length-append}
 use Rattle.rules.specs.Bytes.{exists, first_index, one_of}
 use Rattle.rules.specs.Rows.{chop, by, whole}
-use Rattle.rules.specs.Answers.{done, refused, answer, order, first, number}
+use Rattle.std.specs.Prelude.{Option, Some, None}
+use Rattle.std.specs.Option.{ok_or}
+use Rattle.rules.specs.Answers.{done, refused, answer, order, first, number, told}
 use Rattle.rules.specs.Settings.{vrps_max}
 use Rattle.rules.specs.Origin.{vrp, vrps, vrp_size, bad_vrp, table_checks}
 use Rattle.rules.specs.Index.{nodes_in, nodes_lent, build_index, insert_record, Inserts}
@@ -155,18 +157,18 @@ module _ (w : ℕ) (added memory : List ℕ) (records nodes : ℕ) where
       pub insert_bad : bad_vrp w (vrp w added) ≡ true → Inserts Holds w added memory records nodes (refused (BadVrp records)) memory
       insert_bad b = refusing (λ table h c d. ap (λ n. refused (BadVrp n)) (sym c) ∙ more_bad h added e (omega (arith, l, c)) b ∙ by_build table) refl
 
-      module _ (g : Good w added) {memory' : List ℕ} {r : ℕ} (puts : Puts w (vrp w added) memory records nodes memory' r) where
+      module _ (g : Good w added) {memory' : List ℕ} {made : Option ℕ} (puts : Puts w (vrp w added) memory records nodes memory' made) where
         module _ (table : List ℕ) (h : Holds w table memory) (c : length (vrps w table) ≡ records) (d : nodes_in w (vrps w table) ≡ nodes) where
-          put : Put w (vrp w added) (newest w table) memory memory' r
+          put : Put w (vrp w added) (newest w table) memory memory' made
           put = puts.put (newest w table) h.index (newest-length w table ∙ c) (table_nodes w table (linked-fit h.index.linked) ∙ d) l
 
           taken : Passed order (table_checks w (table ++ added))
           taken = more-taken h added e (omega (arith, l, c)) g
 
-          held : 0 < r → Held w (newest w (table ++ added)) memory'
-          held p = rw (more-newest h added e) (put.held p)
+          held : {n : ℕ} → made ≡ Some n → Held w (newest w (table ++ added)) memory'
+          held {n} p = rw (more-newest h added e) (put.held n p)
 
-        pub insert-full : Whole w → Octets added → r ≡ 0 → Inserts Holds w added memory records nodes (refused NoRoom) memory'
+        insert-full : Whole w → Octets added → made ≡ None → Inserts Holds w added memory records nodes (refused NoRoom) memory'
         insert-full whole o z =
             refusing (λ table h c d.
             let n = more-newest h added e in
@@ -175,12 +177,20 @@ module _ (w : ℕ) (added memory : List ℕ) (records nodes : ℕ) where
             ∙ by_build table)
             (puts.kept z)
 
-        pub insert-done : (r ≡ 0 → ⊥) → length memory' ≡ length memory → Inserts Holds w added memory records nodes (done r) memory'
-        insert-done ne n =
+        insert-done : {n : ℕ} → made ≡ Some n → length memory' ≡ length memory → Inserts Holds w added memory records nodes (done n) memory'
+        insert-done {n} p size =
             record {
               told = λ table h c d.
-                  let k = (put table h c d).count (omega arith) in
-                  taken-done w (table ++ added) (taken table h c d) memory (held table h c d (omega arith)) n (rw (more-newest h added e) k) ∙ by_build table;
-              held = λ table h c d m q. taken-holds w (table ++ added) (taken table h c d) memory (held table h c d (omega arith));
+                  taken-done w (table ++ added) (taken table h c d) memory (held table h c d p) size (rw (more-newest h added e) ((put table h c d).count n p)) ∙ by_build table;
+              held = λ table h c d m q. taken-holds w (table ++ added) (taken table h c d) memory (held table h c d p);
               kept = λ s q. let z : ◌≡◌ {A = ℕ} 0 1 = cc in absurd (omega arith);
             }
+
+        -- What was put, or no room for it.
+        pub insert-put : Whole w → Octets added → length memory' ≡ length memory → Inserts Holds w added memory records nodes (told (ok_or made NoRoom)) memory'
+        unfolding told
+        insert-put whole o size = go made refl
+          where
+            go : (m : Option ℕ) → made ≡ m → Inserts Holds w added memory records nodes (told (ok_or m NoRoom)) memory'
+            go None z = insert-full whole o z
+            go (Some n) p = insert-done p size

@@ -6,6 +6,7 @@ use native.Mathlib.Omega.{arith}
 use lib.ListN.{length, get_or, set, take, drop, length-set, length-map}
 use lib.Pow.{pow_pos}
 use lib.Seq.{get_or-set_same, get_or-set_other, get_or-drop}
+use Rattle.std.specs.Prelude.{Some, None}
 use Rattle.rules.specs.declared.Words.{Words}
 use Rattle.rules.specs.Bytes.{big_endian, part}
 use Rattle.rules.specs.Settings.{vrps_max}
@@ -123,27 +124,27 @@ parts-few {w} h (more {v} {vs} f e₀ e₁ e₂ ls) = omega (arith, parts-few h 
 module _ (w : ℕ) (v : Vrp) (t : List ℕ) (records nodes : ℕ) where
   -- Nothing is stored where there is no room in memory that holds the index.
   puts_none : ((vs : List Vrp) → Held w vs t → length vs ≡ records → length (parts_of w vs) ≡ nodes → records < vrps_max
-      → length t / 3 < length (parts_of w (v ∷ vs)) + length (v ∷ vs)) → Puts w v t records nodes t 0
+      → length t / 3 < length (parts_of w (v ∷ vs)) + length (v ∷ vs)) → Puts w v t records nodes t None
   puts_none h = record {
     kept = λ z. refl;
-    put = λ vs held n c few. record { full = λ z. h vs held n c few; held = λ z. absurd (omega arith); count = λ z. absurd (omega arith) };
+    put = λ vs held n c few. record { full = λ z. h vs held n c few; held = λ m z. cc; count = λ m z. cc };
   }
 
   -- The refusals before the way: too few triples, too few for the nodes that are there; the others meet no index.
-  pub puts_many : vrps_max ≤ records → Puts w v t records nodes t 0
+  pub puts_many : vrps_max ≤ records → Puts w v t records nodes t None
   puts_many h = puts_none (λ vs held n c few. absurd (omega arith))
 
-  pub puts_past : length t / 3 ≤ records → Puts w v t records nodes t 0
+  pub puts_past : length t / 3 ≤ records → Puts w v t records nodes t None
   puts_past h = puts_none (λ vs held n c few. omega arith)
 
-  pub puts_short : length t / 3 - 1 - records < nodes → Puts w v t records nodes t 0
+  pub puts_short : length t / 3 - 1 - records < nodes → Puts w v t records nodes t None
   unfolding parts_of
   puts_short h = puts_none (λ vs held n c few. omega (arith, grown-le v.len (own w v) (parts_of w vs), held.room))
 
-  pub puts_empty : nodes ≡ 0 → Puts w v t records nodes t 0
+  pub puts_empty : nodes ≡ 0 → Puts w v t records nodes t None
   puts_empty h = puts_none (λ vs held n c few. absurd (omega (arith, parts-some w vs)))
 
-  pub puts_large : w ≤ 128 → nodes_max < nodes → Puts w v t records nodes t 0
+  pub puts_large : w ≤ 128 → nodes_max < nodes → Puts w v t records nodes t None
   puts_large l h = puts_none (λ vs held n c few. absurd (omega (arith, parts-few l held.linked)))
 
   module _ (fits : Fits w v) {x len node left : ℕ} (e : x ≡ own w v) (f : len ≡ v.len) (r : Reach t x len nodes node left) where
@@ -167,14 +168,14 @@ module _ (w : ℕ) (v : Vrp) (t : List ℕ) (records nodes : ℕ) where
       parts-count : length (parts_of w (v ∷ vs)) ≡ nodes + left
       parts-count = ap length parts_are ∙ grown-new left (parts_of w vs) held.tree.up (own w v) some here come.ends ∙ rw c refl
 
-    pub puts_full : records < length t / 3 → length t / 3 - 1 - records - nodes < left → Puts w v t records nodes t 0
+    pub puts_full : records < length t / 3 → length t / 3 - 1 - records - nodes < left → Puts w v t records nodes t None
     puts_full i h = puts_none (λ vs held n c few. omega (arith, parts-count held c))
 
     module _ {t₁ : List ℕ} {last : ℕ} (x' : Extended t x left node nodes t₁ last) {cap most asn name : ℕ} (is : cap ≡ length t / 3 - 1 - records)
         (inside : records < length t / 3) (room : nodes + left ≤ cap) (e₁ : most ≡ v.most) (e₂ : asn ≡ v.asn) (e₃ : name ≡ records + 1) where
-      puts_stored : Puts w v t records nodes (stored_at t₁ cap last most asn name) (nodes + left)
+      puts_stored : Puts w v t records nodes (stored_at t₁ cap last most asn name) (Some (nodes + left))
       puts_stored = record {
-        kept = λ (z : nodes + left ≡ 0). absurd (omega (arith, r.within));
+        kept = λ z. cc;
         put = λ vs held n c few.
             let m = (rw e at x').made (map (own w) vs) (parts_of w vs) held.tree c some (come held c) in
             let p = parts_are held c in
@@ -188,8 +189,8 @@ module _ (w : ℕ) (v : Vrp) (t : List ℕ) (records nodes : ℕ) where
             let size₂ : length (stored_at t₁ cap last most asn name) ≡ length t = stored-size t₁ cap last most asn name pos le fit ∙ size in
             let mine : length (stored_at t₁ cap last most asn name) / 3 - (length vs + 1) ≡ cap = omega arith in
             record {
-              full = λ (z : nodes + left ≡ 0). absurd (omega (arith, r.within));
-              held = λ z. record {
+              full = λ z. cc;
+              held = λ m z. record {
                 tree = tree-more tree (stored_at t₁ cap last most asn name) (own w v) (last - 1) (stored-size t₁ cap last most asn name pos le fit) at
                     (stored_name t₁ cap last most asn name pos le fit ∙ rw (length-map vs (own w)) (omega arith))
                     (λ j l k. stored_other t₁ cap last most asn name pos le fit j (λ (q : j / 3 ≡ cap). omega arith) k);
@@ -206,9 +207,9 @@ module _ (w : ℕ) (v : Vrp) (t : List ℕ) (records nodes : ℕ) where
                     held.linked);
                 room = rw size₂ (omega arith);
               };
-              count = λ z. count;
+              count = λ m z. cc;
             };
       }
 
-      pub puts_done : {t₂ : List ℕ} → t₂ ≡ stored_at t₁ cap last most asn name → Puts w v t records nodes t₂ (nodes + left)
+      pub puts_done : {t₂ : List ℕ} → t₂ ≡ stored_at t₁ cap last most asn name → Puts w v t records nodes t₂ (Some (nodes + left))
       puts_done h = rw h puts_stored

@@ -18,11 +18,11 @@ use Rattle.vrp_tree.proofs.Parts.{spot-le, spot-new, added_new, added-old}
 use Rattle.index.proofs.Growing.{Closed, closed_more, below_new, tree-grown}
 
 -- The bit that the code reads is the next of the part.
-pub next_bit : (p : Words) (len left : ℕ) → 0 < left → left ≤ len → len ≤ 128
-    → bit_at 128 (spelled p) (len - left) ≡ (2 ^ len + leading_bits p len) / 2 ^ (left - 1) % 2
+pub next_bit : (p : Words) (len i left : ℕ) → i + left ≡ len → 0 < left → len ≤ 128
+    → bit_at 128 (spelled p) i ≡ (2 ^ len + leading_bits p len) / 2 ^ (left - 1) % 2
 unfolding bit_at leading_bits
-next_bit p len left h k m =
-    let e : 128 - suc (len - left) ≡ 128 - len + (left - 1) = omega arith in
+next_bit p len i left q h m =
+    let e : 128 - suc i ≡ 128 - len + (left - 1) = omega arith in
     ap (λ (n : ℕ). spelled p / 2 ^ n % 2) e
     ∙ ap (λ (n : ℕ). n % 2) (sym (shr-shr (spelled p) (128 - len) (left - 1)))
     ∙ sym (part-bit len (spelled p / 2 ^ (128 - len)) (left - 1) (omega arith))
@@ -186,7 +186,7 @@ later n m t t' h e =
 module _ {t : List ℕ} {x left node nodes : ℕ} {t' : List ℕ} {last made : ℕ} (g : Extending t x left node nodes t' last made) where
   pub extending_next : made < left → {b : ℕ} → b ≡ x / 2 ^ (left - made - 1) % 2 → (nodes + left) * 3 ≤ length t
       → {t'' : List ℕ} → Grown t' (nodes + made) (last - 1) b t''
-      → Extending t x left node nodes t'' (nodes + (made + 1)) (made + 1)
+      → Extending t x left node nodes t'' (nodes + made + 1) (made + 1)
   extending_next h {b} e room {t''} n = record {
     size = n.size ∙ g.size;
     after = later ((nodes + made + 1) * 3) ((nodes + left) * 3) t' t'' (omega arith) n.after ∙ g.after;

@@ -1,5 +1,5 @@
 -- One node more, one record more: what each step leaves in memory.
-use Rattle.std.specs.Prelude.{ℕ, ◌+◌, ◌-◌, ◌*◌, ◌/◌, ◌^◌, ◌≤◌, ◌<◌, ◌≡◌, List, ◌∷◌, length, get_or, set, drop}
+use Rattle.std.specs.Prelude.{ℕ, ◌+◌, ◌-◌, ◌*◌, ◌/◌, ◌^◌, ◌≤◌, ◌<◌, ◌≡◌, List, ◌∷◌, length, get_or, set, drop, Option, Some, None}
 use Rattle.rules.specs.Settings.{vrps_max}
 use Rattle.rules.specs.Origin.{Vrp}
 use Rattle.vrp_tree.specs.Tree.{spot, grown, parts_of}
@@ -40,14 +40,14 @@ abbrev pub stored_at : List ℕ → ℕ → ℕ → ℕ → ℕ → ℕ → List
 stored_at t cap node most asn name =
     set (set (set (set t (cap * 3) (node_at t node 2)) (cap * 3 + 1) most) (cap * 3 + 2) asn) ((node - 1) * 3 + 2) name
 
--- One record more: the index holds it too, or there is no room for it (r is 0).
-pub record Put (w : ℕ) (v : Vrp) (vs : List Vrp) (t t' : List ℕ) (r : ℕ) : Type 0 where
-  pub full : r ≡ 0 → length t / 3 < length (parts_of w (v ∷ vs)) + length (v ∷ vs)
-  pub held : 0 < r → Held w (v ∷ vs) t'
-  pub count : 0 < r → length (parts_of w (v ∷ vs)) ≡ r
+-- One record more: the index holds it too, with so many nodes, or there is no room for it.
+pub record Put (w : ℕ) (v : Vrp) (vs : List Vrp) (t t' : List ℕ) (made : Option ℕ) : Type 0 where
+  pub full : made ≡ None → length t / 3 < length (parts_of w (v ∷ vs)) + length (v ∷ vs)
+  pub held : (n : ℕ) → made ≡ Some n → Held w (v ∷ vs) t'
+  pub count : (n : ℕ) → made ≡ Some n → length (parts_of w (v ∷ vs)) ≡ n
 
 -- A record, put into memory that holds the index of `records` records with `nodes` nodes. Where there is no room nothing is stored,
 -- whatever the memory holds.
-pub record Puts (w : ℕ) (v : Vrp) (t : List ℕ) (records nodes : ℕ) (t' : List ℕ) (r : ℕ) : Type 0 where
-  pub kept : r ≡ 0 → t' ≡ t
-  pub put : (vs : List Vrp) → Held w vs t → length vs ≡ records → length (parts_of w vs) ≡ nodes → records < vrps_max → Put w v vs t t' r
+pub record Puts (w : ℕ) (v : Vrp) (t : List ℕ) (records nodes : ℕ) (t' : List ℕ) (made : Option ℕ) : Type 0 where
+  pub kept : made ≡ None → t' ≡ t
+  pub put : (vs : List Vrp) → Held w vs t → length vs ≡ records → length (parts_of w vs) ≡ nodes → records < vrps_max → Put w v vs t t' made

@@ -1,7 +1,7 @@
 // One record more in the index: the way to its node as far as it is there, the nodes that are not, and its triple (02, Q-7).
 ghost use Rattle.std.specs.Prelude.{◌≡◌, ◌+◌, ◌-◌, ◌*◌, ◌/◌, ◌^◌, ◌<◌, ◌≤◌, length};
 ghost use Rattle.rules.specs.Origin.{vrp_size, vrp};
-ghost use Rattle.vrps.specs.Widths.{Whole};
+ghost use Rattle.vrps.specs.Widths.{bits};
 ghost use Rattle.vrps.specs.Weighing.{Good};
 ghost use Rattle.vrp_tree.specs.Tree.{leading_bits};
 ghost use Rattle.vrp_tree.specs.Memory.{node_at, values};
@@ -10,6 +10,7 @@ ghost use Rattle.index.specs.Steps.{nodes_max, Reach, Grown, Extended, stored_at
 use octets::{number4_at, wide};
 use rules::{VRPS_MAX, Words};
 use vrp_tree::{TRIPLE, index_of};
+use vrps::family::Family;
 use vrps::prefixes::{bit, words};
 
 // The nodes that an index has at most: for each of 4,096 records one to each of 128 bits, and the root.
@@ -45,17 +46,21 @@ fn reach(memory: &[u32], prefix: Words, len: usize, nodes: usize) -> Way
     ensures { Reach memory.now (2 ^ len + leading_bits prefix len) len nodes result.node result.left }
 {
     let mut node = 1;
-    let mut left = len;
-    while 0 < left {
-        let next = child(memory, node, bit(prefix, len - left));
+    for i in 0..len {
+        let next = child(memory, node, bit(prefix, i));
         if next == 0 {
-            return Way { node, left };
+            return Way {
+                node,
+                left: len - i,
+            };
         }
         if nodes < next {
-            return Way { node, left };
+            return Way {
+                node,
+                left: len - i,
+            };
         }
         node = next;
-        left -= 1;
     }
     Way { node, left: 0 }
 }
@@ -86,11 +91,9 @@ fn extend(
     ensures { Extended memory.old (2 ^ len + leading_bits prefix len) left node nodes memory.new result }
 {
     let mut last = node;
-    let mut made = 0;
-    while made < left {
+    for made in 0..left {
         grow(memory, nodes + made, last, bit(prefix, len - (left - made)));
-        made += 1;
-        last = nodes + made;
+        last = nodes + made + 1;
     }
     last
 }
@@ -109,39 +112,45 @@ fn store(memory: &mut [u32], cap: usize, node: usize, most: u32, asn: u32, name:
     memory[head + 2] = name;
 }
 
-// A record that is not bad, into memory that holds the index of `records` records with `nodes` nodes: how many nodes it has then, or 0
-// where there is no room. What it needs is known before anything is stored. Internal.
-pub fn put(width: usize, memory: &mut [u32], bytes: &[u8], records: usize, nodes: usize) -> usize
-    requires { (Whole width) × (length bytes.now ≡ vrp_size width) × Good width bytes.now }
-    ensures { Puts width (vrp width bytes.now) memory.old records nodes memory.new result }
+// A record that is not bad, into memory that holds the index of `records` records with `nodes` nodes: how many nodes it has then, or
+// none where there is no room. What it needs is known before anything is stored. Internal.
+pub fn put(
+    family: Family,
+    memory: &mut [u32],
+    bytes: &[u8],
+    records: usize,
+    nodes: usize,
+) -> Option<usize>
+    requires { (length bytes.now ≡ vrp_size (bits family)) × Good (bits family) bytes.now }
+    ensures { Puts (bits family) (vrp (bits family) bytes.now) memory.old records nodes memory.new result }
 {
     let triples = memory.len() / TRIPLE;
     if VRPS_MAX <= records {
-        return 0;
+        return None;
     }
     if triples <= records {
-        return 0;
+        return None;
     }
     let cap = triples - 1 - records;
     if cap < nodes {
-        return 0;
+        return None;
     }
     if nodes == 0 {
-        return 0;
+        return None;
     }
     if NODES_MAX < nodes {
-        return 0;
+        return None;
     }
-    let at = width / 8;
+    let at = family.octets();
     let prefix = words(&bytes[..at]);
     let len = wide(bytes[at]);
     let way = reach(memory, prefix, len, nodes);
     if cap - nodes < way.left {
-        return 0;
+        return None;
     }
     let node = extend(memory, prefix, len, way.left, way.node, nodes);
     let most = bytes[at + 1] as u32;
     let asn = number4_at(bytes, at + 2);
     store(memory, cap, node, most, asn, narrow(records + 1));
-    nodes + way.left
+    Some(nodes + way.left)
 }

@@ -26,14 +26,12 @@ pub struct Cut {
 fn line_end(s: &[u8]) -> usize
     ensures { LineEnd s.now result }
 {
-    let mut i = 0;
-    while i < s.len() {
-        if s[i] == LINE_FEED {
+    for (i, b) in s.iter().enumerate() {
+        if *b == LINE_FEED {
             return i;
         }
-        i += 1;
     }
-    i
+    s.len()
 }
 
 // Holds some bytes more of a line, as many as fit, and gives how many are held then. Internal.

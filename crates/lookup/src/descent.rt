@@ -1,5 +1,5 @@
-// The look-up: down one bit of the prefix at a time until no node is left (02, Q-7). What it has seen is one number: `NODE` for
-// each node visited, and the state.
+// The look-up: down one bit of the prefix at a time until no node is left (02, Q-7). What it has seen is one number, `NODE` for each node
+// visited and the state, and not a struct of two: a number less to hand down makes the look-up faster.
 ghost use Rattle.std.specs.Prelude.{◌≡◌, ◌+◌, ◌-◌, ◌*◌, ◌/◌, ◌%◌, ◌^◌, ◌<◌, ◌≤◌};
 ghost use Rattle.vrp_tree.specs.Tree.{leading_bits};
 ghost use Rattle.vrp_tree.specs.Memory.{values};
@@ -15,7 +15,7 @@ use vrps::prefixes::octet;
 // The bits of an octet.
 const OCTET: usize = 8;
 
-// Where a look-up stands: a node, 0 where none is left, and what it has seen.
+// Where a look-up stands: a node, 0 where none is left, as the memory has it, and what it has seen.
 #[derive(Clone, Copy)]
 struct Place {
     node: usize,
@@ -61,8 +61,7 @@ fn octet_down(
 {
     let mut here = node;
     let mut so_far = seen;
-    let mut k = 0;
-    while k < OCTET {
+    for k in 0..OCTET {
         if left <= k {
             return Place {
                 node: here,
@@ -75,7 +74,6 @@ fn octet_down(
         }
         here = below.node;
         so_far = below.seen;
-        k += 1;
     }
     Place {
         node: here,

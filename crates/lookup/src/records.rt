@@ -5,7 +5,7 @@ ghost use Rattle.lookup.specs.Look.{allowed, chain_of, noted_of};
 use settings::states::{INVALID, VALID};
 use vrp_tree::{TRIPLE, index_of};
 
-// What a look-up has seen is one number: this for each node visited, and the state, which is less.
+// What a look-up has seen is one number, for speed: this for each node visited, and the state, which is less.
 pub const NODE: usize = 4;
 
 // Whether a record at a node on the route's prefix matches: the maximum allows the route's length, and the ASNs are equal and not 0.
@@ -32,8 +32,7 @@ fn chain(memory: &[u32], head: usize, len: usize, asn: u32, state: usize) -> usi
     let triples = memory.len() / TRIPLE;
     let mut cur = head;
     let mut met = state;
-    let mut fuel = triples;
-    while 0 < fuel {
+    for _ in 0..triples {
         if cur == 0 {
             return met;
         }
@@ -46,7 +45,6 @@ fn chain(memory: &[u32], head: usize, len: usize, asn: u32, state: usize) -> usi
         }
         cur = index_of(memory[at]);
         met = INVALID as usize;
-        fuel -= 1;
     }
     met
 }

@@ -14,25 +14,24 @@ use Rattle.rules.specs.declared.Refusal.TheVariants.{Rejected, BadSetting, BadLe
 use Rattle.opening.specs.Open.{noted, found, seen_disagree}
 use Rattle.opening.specs.declared.Seen.{Seen}
 use Rattle.opening.specs.declared.Seen.TheVariants.{Absent}
-use Rattle.opening.specs.declared.Found.{Found}
-use Rattle.opening.specs.declared.Found.TheVariants.{Malformed, Roles}
+use Rattle.std.specs.Prelude.{Option, Some, None}
 use Rattle.opening.proofs.Opening.{roles-judged}
 
 -- What was found tells whether the parameters are well formed, and then the roles met.
 module _ (ok : Bool) (seen : Seen) (roles : List ℕ) where
-  found_bad : found ok seen roles ≡ Malformed → ok ≡ false
+  found_bad : ((met : Seen) → found ok seen roles ≡ Some met → ⊥) → ok ≡ false
   unfolding found
-  found_bad e = go ok e
+  found_bad n = go ok n
     where
-      go : (x : Bool) → cond x (Roles (foldl noted seen roles)) Malformed ≡ Malformed → x ≡ false
-      go true z = let n : ◌≡◌ {A = ℕ} 0 1 = cc in absurd (omega arith)
-      go false z = refl
+      go : (x : Bool) → ((met : Seen) → cond x (Some (foldl noted seen roles)) None ≡ Some met → ⊥) → x ≡ false
+      go true n = absurd (n (foldl noted seen roles) refl)
+      go false n = refl
 
-  found-good : {met : Seen} → found ok seen roles ≡ Roles met → (ok ≡ true) × (foldl noted seen roles ≡ met)
+  found-good : {met : Seen} → found ok seen roles ≡ Some met → (ok ≡ true) × (foldl noted seen roles ≡ met)
   unfolding found
   found-good {met} e = go ok e
     where
-      go : (x : Bool) → cond x (Roles (foldl noted seen roles)) Malformed ≡ Roles met → (x ≡ true) × (foldl noted seen roles ≡ met)
+      go : (x : Bool) → cond x (Some (foldl noted seen roles)) None ≡ Some met → (x ≡ true) × (foldl noted seen roles ≡ met)
       go true z = let n : foldl noted seen roles ≡ met = cc in (refl, n)
       go false z = let n : ◌≡◌ {A = ℕ} 0 1 = cc in absurd (omega arith)
 
@@ -51,12 +50,12 @@ module _ (local strict : ℕ) (s : List ℕ) where
     pub open_length : parameters_max < length s → refused BadLength ≡ open_session local strict s
     open_length h = sym (rw (e, lt-ltb parameters_max (length s) h) at opened)
 
-    module _ (h : length s ≤ parameters_max) {r : Found} (p : r ≡ found (parameters_ok s) Absent (roles_in s)) where
-      pub open_malformed : r ≡ Malformed → refused BadOpen ≡ open_session local strict s
-      open_malformed q =
-          sym (rw (e, le-ltb parameters_max (length s) h, found_bad (parameters_ok s) Absent (roles_in s) (sym p ∙ q)) at opened)
+    module _ (h : length s ≤ parameters_max) {r : Option Seen} (p : r ≡ found (parameters_ok s) Absent (roles_in s)) where
+      pub open_malformed : ((met : Seen) → r ≡ Some met → ⊥) → refused BadOpen ≡ open_session local strict s
+      open_malformed n =
+          sym (rw (e, le-ltb parameters_max (length s) h, found_bad (parameters_ok s) Absent (roles_in s) (λ met q. n met (p ∙ q))) at opened)
 
-      module _ {met : Seen} (q : r ≡ Roles met) {d : Bool} (k : d ≡ seen_disagree local strict met) where
+      module _ {met : Seen} (q : r ≡ Some met) {d : Bool} (k : d ≡ seen_disagree local strict met) where
         judged : disagree local strict (roles_in s) ≡ d
         judged = sym (k ∙ rw (← (found-good (parameters_ok s) Absent (roles_in s) (sym p ∙ q)).1) (roles-judged local strict (roles_in s)))
 

@@ -17,8 +17,7 @@ use Rattle.octets.proofs.Slices.{part-is, tail_is, item-value}
 use Rattle.opening.specs.Open.{noted, capabilities_ok, capability_roles, found, seen_disagree}
 use Rattle.opening.specs.declared.Seen.{Seen}
 use Rattle.opening.specs.declared.Seen.TheVariants.{Absent, One, Unequal}
-use Rattle.opening.specs.declared.Found.{Found}
-use Rattle.opening.specs.declared.Found.TheVariants.{Malformed, Roles}
+use Rattle.std.specs.Prelude.{Option, Some, None}
 
 -- No byte: nothing is malformed, and there is no role.
 nothing : (capabilities_ok [] ≡ true) × (capability_roles [] ≡ []) × (parameters_ok [] ≡ true) × (roles_in [] ≡ [])
@@ -81,29 +80,29 @@ module _ (s : List ℕ) where
 
 -- ---- The parameters' reader
 
-malformed : (seen : Seen) (roles : List ℕ) {ok : Bool} → ok ≡ false → Malformed ≡ found ok seen roles
+malformed : (seen : Seen) (roles : List ℕ) {ok : Bool} → ok ≡ false → None ≡ found ok seen roles
 unfolding found
 malformed seen roles e = rw e refl
 
 module _ (s : List ℕ) (seen : Seen) where
-  pub parameters_end : length s ≡ 0 → Roles seen ≡ found (parameters_ok s) seen (roles_in s)
+  pub parameters_end : length s ≡ 0 → Some seen ≡ found (parameters_ok s) seen (roles_in s)
   unfolding found
   parameters_end e = rw (nil_of_length s e, nothing.2, nothing.3) refl
 
-  pub parameters_over : 0 < length s → length s < 2 + get_or s 1 0 → Malformed ≡ found (parameters_ok s) seen (roles_in s)
+  pub parameters_over : 0 < length s → length s < 2 + get_or s 1 0 → None ≡ found (parameters_ok s) seen (roles_in s)
   unfolding parameters_ok
   parameters_over p h = malformed seen (roles_in s) (rw (over s p h) refl)
 
   module _ {n : ℕ} (q : n ≡ get_or s 1 0) (h : 2 + n ≤ length s) where
     -- Capabilities, read in what `&s[2..2 + n]` lends, and then the parameters that `&s[2 + n..]` lends.
-    pub parameters_step : get_or s 0 0 ≡ 2 → {r : Found}
+    pub parameters_step : get_or s 0 0 ≡ 2 → {r : Option Seen}
         → let value = take (2 + n - 2) (drop 2 s) in
         let after = take (length s - (2 + n)) (drop (2 + n) s) in
         r ≡ found (capabilities_ok value && parameters_ok after) seen (capability_roles value ++ roles_in after) → r ≡ found (parameters_ok s) seen (roles_in s)
     parameters_step e p = p ∙ sym (rw (part-is s 2 n, tail_is s (2 + n), parameters_ok_lem s q h, parameters_roles s q h, e) refl)
 
     -- Another type.
-    pub parameters_type : (get_or s 0 0 ≡ 2 → ⊥) → Malformed ≡ found (parameters_ok s) seen (roles_in s)
+    pub parameters_type : (get_or s 0 0 ≡ 2 → ⊥) → None ≡ found (parameters_ok s) seen (roles_in s)
     parameters_type e = malformed seen (roles_in s) (rw (parameters_ok_lem s q h, ne_eqb (get_or s 0 0) 2 e) refl)
 
 -- ---- The capabilities' reader
@@ -114,7 +113,7 @@ module _ (s after : List ℕ) (seen : Seen) where
   capabilities-end e = rw (nil_of_length s e, nothing.0, nothing.1) refl
 
   pub capabilities-over : 0 < length s → length s < 2 + get_or s 1 0
-      → Malformed ≡ found (capabilities_ok s && parameters_ok after) seen (capability_roles s ++ roles_in after)
+      → None ≡ found (capabilities_ok s && parameters_ok after) seen (capability_roles s ++ roles_in after)
   unfolding capabilities_ok
   capabilities-over p h = malformed seen (capability_roles s ++ roles_in after) (rw (over s p h) refl)
 
@@ -125,7 +124,7 @@ module _ (s after : List ℕ) (seen : Seen) where
     capabilities-other e = sym (rw (capabilities_ok_lem s q h, capabilities-roles s q h, ne_eqb (get_or s 0 0) 9 e) refl)
 
     module _ (e : get_or s 0 0 ≡ 9) where
-      pub capabilities-long : (n ≡ 1 → ⊥) → Malformed ≡ found (capabilities_ok s && parameters_ok after) seen (capability_roles s ++ roles_in after)
+      pub capabilities-long : (n ≡ 1 → ⊥) → None ≡ found (capabilities_ok s && parameters_ok after) seen (capability_roles s ++ roles_in after)
       capabilities-long k = malformed seen (capability_roles s ++ roles_in after) (rw (capabilities_ok_lem s q h, e, ne_eqb n 1 k) refl)
 
       pub capabilities-role : n ≡ 1

@@ -1,13 +1,11 @@
 -- What the two readers of an OPEN's parameters keep and find. Internal: `open_session` of `rules` says what opening promises.
-use Rattle.std.specs.Prelude.{ℕ, Bool, true, not, cond, ◌&&◌, eqb, get_or}
+use Rattle.std.specs.Prelude.{ℕ, Bool, true, not, cond, ◌&&◌, eqb, get_or, Option, Some, None}
 use mathlib.Core.List.{List, ◌++◌, foldl, map}
 use Rattle.rules.specs.Bytes.{every, keep}
 use Rattle.rules.specs.Rows.{chop, whole, tlv}
 use Rattle.rules.specs.Roles.{capability_ok, is_role, parameters_ok, roles_in, counterpart}
 use Rattle.opening.specs.declared.Seen.{Seen}
 use Rattle.opening.specs.declared.Seen.TheVariants.{Absent, One, Unequal}
-use Rattle.opening.specs.declared.Found.{Found}
-use Rattle.opening.specs.declared.Found.TheVariants.{Malformed, Roles}
 
 -- A role beside what was met before.
 abbrev pub noted : Seen → ℕ → Seen
@@ -22,12 +20,12 @@ capabilities_ok c = whole (chop tlv c) && every capability_ok (chop tlv c).items
 unfoldable pub capability_roles : List ℕ → List ℕ
 capability_roles c = map (λ q. get_or q 2 0) (keep is_role (chop tlv c).items)
 
--- What reading finds: malformed, or these roles beside what was met before.
-unfoldable pub found : Bool → Seen → List ℕ → Found
-found ok seen roles = cond ok (Roles (foldl noted seen roles)) Malformed
+-- What reading finds: none where the parameters are malformed, else these roles beside what was met before.
+unfoldable pub found : Bool → Seen → List ℕ → Option Seen
+found ok seen roles = cond ok (Some (foldl noted seen roles)) None
 
 -- What reading the capabilities of a parameter and the parameters after it finds.
-abbrev pub found_in : List ℕ → List ℕ → Seen → Found
+abbrev pub found_in : List ℕ → List ℕ → Seen → Option Seen
 found_in c after seen = found (capabilities_ok c && parameters_ok after) seen (capability_roles c ++ roles_in after)
 
 -- `disagree` of `rules`, by what was met.

@@ -3,12 +3,12 @@
 #![tactic(auto)]
 
 ghost use Rattle.std.specs.Prelude.{◌≡◌};
-ghost use Rattle.rules.specs.Answers.{told_opened};
+ghost use Rattle.rules.specs.Answers.{told};
 ghost use Rattle.rules.specs.Roles.{parameters_ok, roles_in, open_session};
 ghost use Rattle.opening.specs.Open.{noted, found, found_in, seen_disagree};
 
 use octets::wide;
-use rules::{Opened, PARAMETERS_MAX, Refusal};
+use rules::{PARAMETERS_MAX, Refusal};
 use settings::ranges::opening_ok;
 use settings::roles::remote_role;
 
@@ -23,13 +23,6 @@ pub enum Seen {
     Absent,
     One(u8),
     Unequal,
-}
-
-// What reading the parameters finds.
-#[derive(Clone, Copy)]
-pub enum Found {
-    Malformed,
-    Roles(Seen),
 }
 
 // What was met, with one more role capability.
@@ -47,47 +40,48 @@ fn note(seen: Seen, role: u8) -> Seen
     }
 }
 
-// Reads parameters to their end: type, length, value. Those of type 2 hold capabilities, and there are no others.
+// Reads parameters to their end: type, length, value. Those of type 2 hold capabilities, and there are no others. What was met with the
+// roles in them, or None where they are malformed.
 #[cycle(read_capabilities_read_parameters)]
-fn read_parameters(s: &[u8], seen: Seen) -> Found
+fn read_parameters(s: &[u8], seen: Seen) -> Option<Seen>
     ensures { result ≡ found (parameters_ok s.now) seen (roles_in s.now) }
 {
     if s.len() == 0 {
-        return Found::Roles(seen);
+        return Some(seen);
     }
     if s.len() < 2 {
-        return Found::Malformed;
+        return None;
     }
     let n = wide(s[1]);
     if s.len() - 2 < n {
-        return Found::Malformed;
+        return None;
     }
     if s[0] != CAPABILITIES {
-        return Found::Malformed;
+        return None;
     }
     read_capabilities(&s[2..2 + n], &s[2 + n..], seen)
 }
 
-// Reads the capabilities of a parameter through (code, length, value), then the parameters after it. Code 9 is a role.
+// Reads the capabilities of a parameter through (code, length, value), then the parameters after it, likewise. Code 9 is a role.
 #[cycle(read_capabilities_read_parameters)]
-fn read_capabilities(c: &[u8], after: &[u8], seen: Seen) -> Found
+fn read_capabilities(c: &[u8], after: &[u8], seen: Seen) -> Option<Seen>
     ensures { result ≡ found_in c.now after.now seen }
 {
     if c.len() == 0 {
         return read_parameters(after, seen);
     }
     if c.len() < 2 {
-        return Found::Malformed;
+        return None;
     }
     let n = wide(c[1]);
     if c.len() - 2 < n {
-        return Found::Malformed;
+        return None;
     }
     if c[0] != ROLE {
         return read_capabilities(&c[2 + n..], after, seen);
     }
     if n != 1 {
-        return Found::Malformed;
+        return None;
     }
     read_capabilities(&c[3..], after, note(seen, c[2]))
 }
@@ -104,25 +98,20 @@ fn disagrees(local_role: u8, strict: u8, seen: Seen) -> bool
 }
 
 // Opening a session: the remote role, or why not.
-pub fn open_session(parameters: &[u8], local_role: u8, strict: u8) -> Opened
-    ensures { told_opened result ≡ open_session local_role strict parameters.now }
+pub fn open_session(parameters: &[u8], local_role: u8, strict: u8) -> Result<u8, Refusal>
+    ensures { told result ≡ open_session local_role strict parameters.now }
 {
     if !opening_ok(local_role, strict) {
-        return Opened::Refused(Refusal::BadSetting);
+        return Err(Refusal::BadSetting);
     }
     if PARAMETERS_MAX < parameters.len() {
-        return Opened::Refused(Refusal::BadLength);
+        return Err(Refusal::BadLength);
     }
-    let read = read_parameters(parameters, Seen::Absent);
-    match read {
-        Found::Malformed => {
-            return Opened::Refused(Refusal::BadOpen);
-        }
-        Found::Roles(seen) => {
-            if disagrees(local_role, strict, seen) {
-                return Opened::Refused(Refusal::Rejected);
-            }
-            Opened::Role(remote_role(local_role))
-        }
+    let Some(seen) = read_parameters(parameters, Seen::Absent) else {
+        return Err(Refusal::BadOpen);
+    };
+    if disagrees(local_role, strict, seen) {
+        return Err(Refusal::Rejected);
     }
+    Ok(remote_role(local_role))
 }

@@ -1,11 +1,13 @@
 -- What the check of another make answers by what sending decides of a readable block.
 use mathlib.Core.Path.{◌≡◌, refl, sym, ap, ◌∙◌}
-use mathlib.Core.Bool.{Bool, true, false, cond, ◌&&◌}
+use mathlib.Core.Bool.{Bool, true, false, cond, ◌&&◌, true≢false}
 use mathlib.Core.List.{List}
 use Prim.Native.Nat.{ℕ, ◌≤◌}
 use lib.Dec.{leb}
 use lib.ListN.{length}
 use borrow.Author.Tests.{leb-true, leb-false}
+use Rattle.std.specs.Prelude.{Option, Some, None}
+use Rattle.std.specs.Option.{is_some}
 use Rattle.rules.specs.Answers.{Answer, done, refused, number}
 use Rattle.rules.specs.Settings.{block_max}
 use Rattle.rules.specs.Attributes.{Attribute, attributes, encode, readable}
@@ -17,6 +19,15 @@ use Rattle.rules.specs.declared.Session.{Session}
 use Rattle.rules.proofs.Agreeing.{measured-done, measured-long, measured-refused}
 use Rattle.rules.proofs.Allowing.{made-good, allowed-refused, allowed-compared}
 use Rattle.other_make.specs.Finding.{comparison}
+
+-- Whether there is a rule, and which.
+pub some_of : (rule : Option ℕ) → is_some rule ≡ true → (n : ℕ) × (rule ≡ Some n)
+some_of None e = absurd (true≢false (sym e))
+some_of (Some n) e = (n, refl)
+
+pub none_of : (rule : Option ℕ) → is_some rule ≡ false → rule ≡ None
+none_of None e = refl
+none_of (Some n) e = absurd (true≢false e)
 
 module _ (s : Session) (source state : ℕ) (b : List ℕ) where
   pub sized-refused : {r : Refusal} → sending_verdict s source state b ≡ refused r → send_size s source state b ≡ refused r

@@ -14,6 +14,7 @@ use Rattle.rules.specs.Attributes.{attribute, attributes, attribute_size, encode
 use Rattle.rules.proofs.Lists.{is_empty_not}
 use Rattle.rules.proofs.Blocks.{encode-attribute}
 use Rattle.octets.proofs.Slices.{part-is}
+use Rattle.attributes.specs.Layout.{SizeAt}
 use Rattle.attributes.proofs.Faults.{attributes-step, attributes_stop}
 use Rattle.attributes.proofs.Sizes.{item-length, item-least}
 use Rattle.other_make.specs.Finding.{item_of}
@@ -68,15 +69,15 @@ module _ {b : List ℕ} {at passed : ℕ} (w : Counting b at passed) where
     pub counting_torn : at < length b → n ≡ 0 → whole (chop attribute_size b) ≡ false
     counting_torn h z = w.ends ∙ (walk_torn b at e h z).1
 
-    pub counting_next : (n ≡ 0 → ⊥) → at + n ≤ length b → Counting b (at + n) (passed + 1)
-    counting_next z h =
-        let l = walk_next b at e z in
-        record {
-          few = omega (arith, w.few, item-least (drop at b) e z);
-          within = h;
-          total = omega (arith, w.total, ap length l.0);
-          ends = w.ends ∙ l.1;
-        }
+  pub counting_next : {n : ℕ} → SizeAt b at n → (n ≡ 0 → ⊥) → Counting b (at + n) (passed + 1)
+  counting_next sized z =
+      let l = walk_next b at sized.is z in
+      record {
+        few = omega (arith, w.few, item-least (drop at b) sized.is z);
+        within = sized.within z;
+        total = omega (arith, w.total, ap length l.0);
+        ends = w.ends ∙ l.1;
+      }
 
 -- ---- Seeking a type
 

@@ -6,15 +6,14 @@ ghost use Rattle.rules.specs.Attributes.{attribute, attributes, readable, value_
 ghost use Rattle.rules.specs.Changes.{drop_from};
 ghost use Rattle.rules.specs.OtherMake.{flags_apart};
 ghost use Rattle.communities.specs.Tags.{drop_test, tag_bytes};
+ghost use Rattle.communities.specs.declared.tags.Dropping.TheVariants.{AllTags};
 ghost use Rattle.rewriting.specs.Plan.{turned, turned_all, new_tags, new_otcs, Whole};
-ghost use Rattle.other_make.specs.declared.found.Found.TheVariants.{All, Missing};
 ghost use Rattle.other_make.specs.Finding.{item_of, compared, looked_up, FindsFrom, AtMost, LeavesBytes, Counts};
 
-use super::found::{Counted, Found};
 use attributes::attribute_size;
 use attributes::values::{COMMUNITIES, OTC, header_size, is_long};
 use communities::left::same_left;
-use communities::tags::ALL_TAGS;
+use communities::tags::Dropping;
 use octets::buffer::bytes_of;
 use octets::same_bytes;
 use settings::states::INVALID;
@@ -76,99 +75,86 @@ fn look_up(kind: u8, flags: u8, v: &[u8], sent: &[u8]) -> bool
 
 // The same of a communities attribute, whose value is what is left of some communities, and a tag. Internal.
 fn look_up_left(flags: u8, v: &[u8], state: u8, sent: &[u8]) -> bool
-    ensures { result ≡ looked_up (attributes sent.now) (compared flags communities_type (drop_from (drop_test 0) v.now ++ tag_bytes state)) }
+    ensures { result ≡ looked_up (attributes sent.now) (compared flags communities_type (drop_from (drop_test AllTags) v.now ++ tag_bytes state)) }
 {
     let theirs = find(sent, COMMUNITIES);
     if !same_flags(flags, theirs) {
         return false;
     }
-    same_left(ALL_TAGS, v, state, value_of(theirs))
+    same_left(Dropping::AllTags, v, state, value_of(theirs))
 }
 
-// Those found so far, and one more where it is found. Internal.
-fn with_one(so_far: usize, found: bool) -> Found
-    requires { so_far + 1 < 2 ^ 64 }
-    ensures { result ≡ cond found (All (so_far + 1)) Missing }
-{
-    if found {
-        return Found::All(so_far + 1);
-    }
-    Found::Missing
-}
-
-// One attribute of the block as it goes out, where `left` bytes of communities are left. Internal.
-fn turned_found(so_far: usize, a: &[u8], left: usize, state: u8, sent: &[u8]) -> Found
+// Those found so far, and with them one attribute of the block as it goes out, where `left` bytes of communities are left; none where it is
+// missing. Internal.
+fn turned_found(so_far: usize, a: &[u8], left: usize, state: u8, sent: &[u8]) -> Option<usize>
     requires { (Whole a.now) × (LeavesBytes left (attribute a.now)) × (so_far + 1 < 2 ^ 64) }
-    ensures { (FindsFrom so_far (attributes sent.now) (turned (drop_test 0) state (attribute a.now)) result) × (AtMost (so_far + 1) result) }
+    ensures { (FindsFrom so_far (attributes sent.now) (turned (drop_test AllTags) state (attribute a.now)) result) × (AtMost (so_far + 1) result) }
 {
     let kind = a[1];
     if kind != COMMUNITIES {
-        return with_one(so_far, look_up(kind, a[0], value_of(a), sent));
+        return look_up(kind, a[0], value_of(a), sent).then_some(so_far + 1);
     }
     if left == 0 {
-        return Found::All(so_far);
+        return Some(so_far);
     }
-    with_one(so_far, look_up_left(a[0], value_of(a), state, sent))
+    look_up_left(a[0], value_of(a), state, sent).then_some(so_far + 1)
 }
 
-// The attributes of a readable block as they go out, apart from new ones, where `left` bytes of communities are left. Internal.
-pub fn all_turned_found(block: &[u8], left: usize, state: u8, sent: &[u8]) -> Found
-    requires { (readable block.now ≡ true) × (left ≡ length (drop_from (drop_test 0) (value_of communities_type (attributes block.now)))) }
-    ensures { (FindsFrom 0 (attributes sent.now) (turned_all (drop_test 0) state (attributes block.now)) result) × (AtMost (length block.now) result) }
+// How many attributes a readable block has as it goes out, apart from new ones, where `left` bytes of communities are left and all are found;
+// none where one is missing. Internal.
+pub fn all_turned_found(block: &[u8], left: usize, state: u8, sent: &[u8]) -> Option<usize>
+    requires { (readable block.now ≡ true) × (left ≡ length (drop_from (drop_test AllTags) (value_of communities_type (attributes block.now)))) }
+    ensures { (FindsFrom 0 (attributes sent.now) (turned_all (drop_test AllTags) state (attributes block.now)) result) × (AtMost (length block.now) result) }
 {
     let mut at = 0;
     let mut so_far = 0;
     while at < block.len() {
         let n = attribute_size(block, at);
-        let found = turned_found(so_far, &block[at..at + n], left, state, sent);
-        let Found::All(count) = found else {
-            return Found::Missing;
-        };
-        so_far = count;
+        so_far = turned_found(so_far, &block[at..at + n], left, state, sent)?;
         at += n;
     }
-    Found::All(so_far)
+    Some(so_far)
 }
 
-// A new tag attribute, where no community is left and there is a state to tell. Internal.
-pub fn new_tag_found(so_far: usize, flags: u8, left: usize, state: u8, sent: &[u8]) -> Found
+// The same of a new tag attribute, where no community is left and there is a state to tell. Internal.
+pub fn new_tag_found(so_far: usize, flags: u8, left: usize, state: u8, sent: &[u8]) -> Option<usize>
     requires { so_far + 1 < 2 ^ 64 }
     ensures { (FindsFrom so_far (attributes sent.now) (new_tags flags left state) result) × (AtMost (so_far + 1) result) }
 {
     if left != 0 {
-        return Found::All(so_far);
+        return Some(so_far);
     }
     if INVALID < state {
-        return Found::All(so_far);
+        return Some(so_far);
     }
-    with_one(so_far, look_up_left(flags, &[], state, sent))
+    look_up_left(flags, &[], state, sent).then_some(so_far + 1)
 }
 
-// A new OTC, where there is an AS to name. Internal.
-pub fn new_otc_found(so_far: usize, flags: u8, asn: u32, sent: &[u8]) -> Found
+// The same of a new OTC, where there is an AS to name. Internal.
+pub fn new_otc_found(so_far: usize, flags: u8, asn: Option<u32>, sent: &[u8]) -> Option<usize>
     requires { so_far + 1 < 2 ^ 64 }
     ensures { FindsFrom so_far (attributes sent.now) (new_otcs flags asn) result }
 {
-    if asn == 0 {
-        return Found::All(so_far);
-    }
+    let Some(asn) = asn else {
+        return Some(so_far);
+    };
     let bytes = bytes_of(asn);
-    with_one(so_far, look_up(OTC, flags, &bytes, sent))
+    look_up(OTC, flags, &bytes, sent).then_some(so_far + 1)
 }
 
-// How many attributes a block has, or that it has an overrun. Internal.
-pub fn count(block: &[u8]) -> Counted
+// How many attributes a block has; none where it has an overrun.
+pub fn count(block: &[u8]) -> Option<usize>
     ensures { Counts block.now result }
 {
     let mut at = 0;
-    let mut so_far = 0;
+    let mut passed = 0;
     while at < block.len() {
         let n = attribute_size(block, at);
         if n == 0 {
-            return Counted::Overrun;
+            return None;
         }
-        so_far += 1;
+        passed += 1;
         at += n;
     }
-    Counted::Attributes(so_far)
+    Some(passed)
 }

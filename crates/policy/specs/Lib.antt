@@ -1,2 +1,2 @@
--- What the internal form of receipt hands on.
+-- What the internal form of receipt hands on, and the AS that an OTC names.
 pub mod Placed

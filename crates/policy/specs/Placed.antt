@@ -1,37 +1,32 @@
--- What the internal form of receipt hands on beside its answer: where the AS_PATH of a block that was taken stands, the number of tags
--- thrown out, and the state that those left tell.
-use Rattle.std.specs.Prelude.{◌≡◌, true, List, ℕ}
-use Rattle.std.proofs.Math.Option.{Option, none, some}
-use Rattle.rules.specs.Answers.{Answer, done, refused}
+-- What the internal form of receipt hands on: its answer as receipt's, and where the AS_PATH of a block that was taken stands. And the AS that
+-- an OTC names, by its place.
+use Rattle.std.specs.Prelude.{◌≡◌, true, cond, List, ℕ, eqb, ltb, length, Option, Some, None, Result, Ok, Err}
+use Rattle.rules.specs.Bytes.{big_endian}
+use Rattle.rules.specs.Answers.{told_received, thrown_received, state_received}
 use Rattle.rules.specs.Attributes.{attributes, readable}
 use Rattle.rules.specs.Receipt.{GotNumbered}
-use Rattle.rules.specs.declared.Refusal.TheVariants.{Ineligible}
+use Rattle.rules.specs.declared.Received.{Received}
+use Rattle.rules.specs.declared.Declined.{Declined}
 use Rattle.rules.specs.declared.Session.{Session}
-use Rattle.attributes.specs.Layout.{layout}
+use Rattle.attributes.specs.Layout.{layout, value_at}
 use Rattle.policy.specs.declared.placed.Placed.{Placed}
-use Rattle.policy.specs.declared.placed.Placed.TheVariants.{Block, Ineligible as NotEligible, Refused}
 
-unfoldable pub told_placed : Placed → Answer ℕ
-told_placed (Block n path thrown state) = done n
-told_placed (NotEligible rule thrown) = refused (Ineligible rule)
-told_placed (Refused r) = refused r
+-- The AS that the OTC at a place of a block names; none where the place is the block's end.
+unfoldable pub otc_at : ℕ → List ℕ → Option ℕ
+otc_at place b =
+    let v = value_at place b in
+    cond (ltb place (length b)) (Some (cond (eqb (length v) 4) (big_endian v) 0)) None
 
-unfoldable pub thrown_placed : Placed → Option ℕ
-thrown_placed (Block n path thrown state) = some thrown
-thrown_placed (NotEligible rule thrown) = some thrown
-thrown_placed (Refused r) = none
-
-unfoldable pub state_placed : Placed → Option ℕ
-state_placed (Block n path thrown state) = some state
-state_placed (NotEligible rule thrown) = none
-state_placed (Refused r) = none
+-- The same answer without the place.
+unfoldable pub taken : Result Placed Declined → Result Received Declined
+taken (Ok p) = Ok (record { length = p.length; thrown_out = p.thrown_out; state = p.state })
+taken (Err d) = Err d
 
 -- The block is readable, and its AS_PATH stands there.
-abbrev pub PathAt : List ℕ → Placed → Type 0
-PathAt b (Block n path thrown state) = (readable b ≡ true) × (path ≡ (layout (attributes b)).as_path)
-PathAt b (NotEligible rule thrown) = Unit {0}
-PathAt b (Refused r) = Unit {0}
+abbrev pub PathAt : List ℕ → Result Placed Declined → Type 0
+PathAt b (Ok p) = (readable b ≡ true) × (p.as_path ≡ (layout (attributes b)).as_path)
+PathAt b (Err d) = Unit {0}
 
-pub record GotPlaced (s : Session) (b before : List ℕ) (r : Placed) (after : List ℕ) : Type 0 where
-  pub got : GotNumbered s b before (told_placed r) (thrown_placed r) (state_placed r) after
+pub record GotPlaced (s : Session) (b before : List ℕ) (r : Result Placed Declined) (after : List ℕ) : Type 0 where
+  pub got : GotNumbered s b before (told_received (taken r)) (thrown_received (taken r)) (state_received (taken r)) after
   pub path : PathAt b r

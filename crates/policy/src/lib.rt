@@ -6,81 +6,69 @@ pub mod placed;
 pub mod size;
 pub mod write;
 
+ghost use Rattle.std.specs.Prelude.{◌≡◌};
 ghost use Rattle.rules.specs.Answers.{told_received, thrown_received, state_received};
 ghost use Rattle.rules.specs.Receipt.{GotNumbered};
-ghost use Rattle.policy.specs.Placed.{GotPlaced};
+ghost use Rattle.policy.specs.Placed.{GotPlaced, otc_at};
 
-use attributes::layout::Reading;
 use attributes::{otc_as, read, value};
 use communities::left::sift;
 use communities::received::state_left;
-use communities::tags::ALL_TAGS;
+use communities::tags::Dropping;
 use placed::Placed;
-use rewriting::plan::Output;
 use rewriting::store;
-use rules::{Received, Refusal, Session};
+use rules::{Declined, Received, Refusal, Session};
 use settings::ranges::{block_size_ok, session_ok};
 use settings::states::UNAVAILABLE;
 use verdicts::{new_flags, receipt_rule, received_otc, received_test};
 
+// The AS that the OTC at a place of a block names; none where the place is the block's end.
+fn otc_at(block: &[u8], place: usize) -> Option<u32>
+    ensures { result ≡ otc_at place block.now }
+{
+    if place < block.len() {
+        return Some(otc_as(value(block, place)));
+    }
+    None
+}
+
 // Receipt, handing on where the AS_PATH stands, for a caller that validates the origin. Internal.
-pub fn receive_placed(session: Session, block: &[u8], out: &mut [u8]) -> Placed
+pub fn receive_placed(session: Session, block: &[u8], out: &mut [u8]) -> Result<Placed, Declined>
     ensures { GotPlaced session block.now out.old result out.new }
 {
     if !session_ok(session) {
-        return Placed::Refused(Refusal::BadSetting);
+        return Err(Declined::Refused(Refusal::BadSetting));
     }
     if !block_size_ok(block.len()) {
-        return Placed::Refused(Refusal::BadLength);
+        return Err(Declined::Refused(Refusal::BadLength));
     }
-    let reading = read(block);
-    match reading {
-        Reading::Fault(fault) => {
-            return Placed::Refused(Refusal::Malformed(fault));
-        }
-        Reading::Clean(layout) => {
-            let place = layout.otc;
-            let otc = otc_as(value(block, place));
-            let rule = receipt_rule(session, place < block.len(), otc);
-            if rule != 0 {
-                let thrown_out = sift(ALL_TAGS, value(block, layout.communities)).thrown_out;
-                return Placed::Ineligible { rule, thrown_out };
-            }
-            let test = received_test(session);
-            let asn = received_otc(session);
-            let flags = new_flags(false);
-            let output = store(block, layout, test, flags, UNAVAILABLE, asn, out);
-            match output {
-                Output::Full => Placed::Refused(Refusal::NoRoom),
-                Output::Bytes { length, thrown_out } => Placed::Block {
-                    length,
-                    as_path: layout.as_path,
-                    thrown_out,
-                    state: state_left(test, value(block, layout.communities)),
-                },
-            }
-        }
+    let layout = read(block)?;
+    if let Some(rule) = receipt_rule(session, otc_at(block, layout.otc)) {
+        let thrown_out = sift(Dropping::AllTags, value(block, layout.communities)).thrown_out;
+        return Err(Declined::Ineligible { rule, thrown_out });
     }
+    let dropping = received_test(session);
+    let asn = received_otc(session);
+    let flags = new_flags(false);
+    let stored = store(block, layout, dropping, flags, UNAVAILABLE, asn, out);
+    let written = stored.ok_or(Refusal::NoRoom)?;
+    Ok(Placed {
+        length: written.length,
+        as_path: layout.as_path,
+        thrown_out: written.thrown_out,
+        state: state_left(dropping, value(block, layout.communities)),
+    })
 }
 
 // Receipt (RFC 9234 section 5, ingress): the route as it may be installed, or why not; on answers 0 and 1 also how many tags of the
 // block received are thrown out, and on answer 0 the state that those left tell.
-pub fn receive(session: Session, block: &[u8], out: &mut [u8]) -> Received
+pub fn receive(session: Session, block: &[u8], out: &mut [u8]) -> Result<Received, Declined>
     ensures { GotNumbered session block.now out.old (told_received result) (thrown_received result) (state_received result) out.new }
 {
-    let placed = receive_placed(session, block, out);
-    match placed {
-        Placed::Refused(refusal) => Received::Refused(refusal),
-        Placed::Ineligible { rule, thrown_out } => Received::Ineligible { rule, thrown_out },
-        Placed::Block {
-            length,
-            as_path,
-            thrown_out,
-            state,
-        } => Received::Block {
-            length,
-            thrown_out,
-            state: state as usize,
-        },
-    }
+    let placed = receive_placed(session, block, out)?;
+    Ok(Received {
+        length: placed.length,
+        thrown_out: placed.thrown_out,
+        state: placed.state as usize,
+    })
 }

@@ -1,18 +1,10 @@
-// What the internal form of receipt answers.
-use rules::Refusal;
+// What the internal form of receipt tells.
 
-// What receipt answers, and of a block that was taken where the AS_PATH of the block received stands.
+// What receipt tells of a block that it stored, and where the AS_PATH of the block received stands.
 #[derive(Clone, Copy)]
-pub enum Placed {
-    Block {
-        length: usize,
-        as_path: usize,
-        thrown_out: usize,
-        state: u8,
-    },
-    Ineligible {
-        rule: u8,
-        thrown_out: usize,
-    },
-    Refused(Refusal),
+pub struct Placed {
+    pub length: usize,
+    pub as_path: usize,
+    pub thrown_out: usize,
+    pub state: u8,
 }

@@ -8,8 +8,9 @@ use Prim.Native.Nat.{ℕ, ◌+◌, ◌≤◌}
 use native.Mathlib.Omega.{arith}
 use lib.Dec.{leb, ltb, eqb}
 use lib.ListN.{length, length-append}
-use borrow.Author.Tests.{le-ltb, ltb-false, leb-true, ne_eqb, eqb-true}
+use borrow.Author.Tests.{le-ltb, ltb-false, leb-true, ne_eqb}
 use Rattle.rules.specs.Bytes.{is_empty, every, bytes4}
+use Rattle.std.specs.Prelude.{Option, Some, None}
 use Rattle.rules.specs.Attributes.{Attribute, encode, encode_one, has, has_otc, communities_type, otc_type}
 use Rattle.rules.specs.Changes.{tag, drop_communities, insert, new_attribute, with_tag, add_tag, add_otc, tagged, marked, rewritten}
 use Rattle.rules.proofs.Lists.{every_append}
@@ -63,13 +64,10 @@ module _ (dropped : List ℕ → Bool) (flags : ℕ) where
       go true = append-nil (encode_one (new_attribute flags communities_type (tag state)))
       go false = refl
 
-  new_otcs-bytes : (asn : ℕ) → encode (new_otcs flags asn) ≡ new_otc_bytes flags asn
+  new_otcs-bytes : (asn : Option ℕ) → encode (new_otcs flags asn) ≡ new_otc_bytes flags asn
   unfolding new_otcs new_otc_bytes encode flat_map
-  new_otcs-bytes asn = go (eqb asn 0)
-    where
-      go : (x : Bool) → encode (cond x [] (new_attribute flags otc_type (bytes4 asn) ∷ [])) ≡ cond x [] (encode_one (new_attribute flags otc_type (bytes4 asn)))
-      go true = refl
-      go false = append-nil (encode_one (new_attribute flags otc_type (bytes4 asn)))
+  new_otcs-bytes None = refl
+  new_otcs-bytes (Some asn) = append-nil (encode_one (new_attribute flags otc_type (bytes4 asn)))
 
   module _ (s : ℕ) (l : List Attribute) where
     -- The tag: in the communities that are left, or new.
@@ -118,7 +116,7 @@ module _ (dropped : List ℕ → Bool) (flags : ℕ) where
         go false = unfold tagged in refl
 
     -- The whole list.
-    module _ (asn : ℕ) where
+    module _ (asn : Option ℕ) where
       U : List Attribute
       U = front (ltb 16) (turned_all dropped s l)
 
@@ -129,13 +127,13 @@ module _ (dropped : List ℕ → Bool) (flags : ℕ) where
       N = new_tags flags (length (left dropped l)) s
 
       -- the new OTC goes past the front and a new tag
-      past : insert (new_attribute flags otc_type (bytes4 asn)) (U ++ (N ++ B)) ≡ U ++ (N ++ (front (ltb 35) B ++ (new_attribute flags otc_type (bytes4 asn) ∷ back (ltb 35) B)))
-      past =
+      past : (n : ℕ) → insert (new_attribute flags otc_type (bytes4 n)) (U ++ (N ++ B)) ≡ U ++ (N ++ (front (ltb 35) B ++ (new_attribute flags otc_type (bytes4 n) ∷ back (ltb 35) B)))
+      past n =
           insert-past new U (N ++ B) (unfold new_attribute U in below_higher 16 35 (omega arith) (front (ltb 16) (turned_all dropped s l)) (front_below 16 (turned_all dropped s l)))
           ∙ ap (λ (z : List Attribute). U ++ z) (insert-past new N B tags ∙ ap (λ (z : List Attribute). N ++ z) (unfold new_attribute in insert-between new B))
         where
           new : Attribute
-          new = new_attribute flags otc_type (bytes4 asn)
+          new = new_attribute flags otc_type (bytes4 n)
 
           tags : Below new.type N
           tags = unfold new_attribute N new_tags in go (eqb (length (left dropped l)) 0 && leb s 2)
@@ -144,31 +142,20 @@ module _ (dropped : List ℕ → Bool) (flags : ℕ) where
               go true = unfold new_attribute in (refl, tt)
               go false = tt
 
-      rewritten-is : rewritten dropped flags (told_tag s) (told_otc asn) l ≡ U ++ (N ++ (front (ltb 35) B ++ (new_otcs flags (cond (has_otc l) 0 asn) ++ back (ltb 35) B)))
+      rewritten-is : rewritten dropped flags (told_tag s) (told_otc asn) l ≡ U ++ (N ++ (front (ltb 35) B ++ (new_otcs flags (cond (has_otc l) None asn) ++ back (ltb 35) B)))
       unfolding rewritten U N B
-      rewritten-is = go (eqb asn 0) refl (has_otc l) refl
+      rewritten-is = go asn (has_otc l) refl
         where
           split : U ++ (N ++ B) ≡ U ++ (N ++ (front (ltb 35) B ++ back (ltb 35) B))
           split = ap (λ (z : List Attribute). U ++ (N ++ z)) (sym (front-back (ltb 35) B))
 
-          none-new : new_otcs flags 0 ≡ []
-          none-new = unfold new_otcs in refl
-
-          is-new : eqb asn 0 ≡ false → new_otcs flags asn ≡ new_attribute flags otc_type (bytes4 asn) ∷ []
-          is-new e = unfold new_otcs in rw e refl
-
-          go : (x : Bool) → eqb asn 0 ≡ x → (y : Bool) → has_otc l ≡ y
-              → marked flags (told_otc asn) (tagged flags (told_tag s) (drop_communities dropped l))
-              ≡ U ++ (N ++ (front (ltb 35) B ++ (new_otcs flags (cond y 0 asn) ++ back (ltb 35) B)))
-          go true e y f =
-              unfold told_otc marked in
-              rw (e, zero y, none-new) (tagged_is ∙ split)
-            where
-              zero : (y : Bool) → cond y 0 asn ≡ 0
-              zero true = refl
-              zero false = eqb-true asn 0 e
-          go false e true f = unfold told_otc marked add_otc in rw (e, tagged-otc, f, none-new) (tagged_is ∙ split)
-          go false e false f = unfold told_otc marked add_otc in rw (e, tagged-otc, f, is-new e) (ap (insert (new_attribute flags otc_type (bytes4 asn))) tagged_is ∙ past)
+          go : (a : Option ℕ) (y : Bool) → has_otc l ≡ y
+              → marked flags (told_otc a) (tagged flags (told_tag s) (drop_communities dropped l))
+              ≡ U ++ (N ++ (front (ltb 35) B ++ (new_otcs flags (cond y None a) ++ back (ltb 35) B)))
+          go None true f = unfold told_otc marked new_otcs in tagged_is ∙ split
+          go None false f = unfold told_otc marked new_otcs in tagged_is ∙ split
+          go (Some n) true f = unfold told_otc marked add_otc new_otcs in rw (tagged-otc, f) (tagged_is ∙ split)
+          go (Some n) false f = unfold told_otc marked add_otc new_otcs in rw (tagged-otc, f) (ap (insert (new_attribute flags otc_type (bytes4 n))) tagged_is ∙ past n)
 
       -- The same attributes wherever the new ones stand: what passes a test of each, and how many they are.
       parts : turned_all dropped s l ≡ U ++ (front (ltb 35) B ++ back (ltb 35) B)
@@ -176,7 +163,7 @@ module _ (dropped : List ℕ → Bool) (flags : ℕ) where
       parts = sym (ap (λ (z : List Attribute). front (ltb 16) (turned_all dropped s l) ++ z) (front-back (ltb 35) (back (ltb 16) (turned_all dropped s l))) ∙ front-back (ltb 16) (turned_all dropped s l))
 
       abbrev O : List Attribute
-      O = new_otcs flags (cond (has_otc l) 0 asn)
+      O = new_otcs flags (cond (has_otc l) None asn)
 
       pub rewritten-every : (p : Attribute → Bool)
           → every p (rewritten dropped flags (told_tag s) (told_otc asn) l) ≡ every p (turned_all dropped s l) && (every p (new_tags flags (length (left dropped l)) s) && every p O)
@@ -206,15 +193,15 @@ module _ (dropped : List ℕ → Bool) (flags : ℕ) where
           )
 
   -- The bytes: of each part of the block what is rewritten of it, and the new attributes between.
-  pub outgoing-bytes : (l : List Attribute) (s asn : ℕ)
+  pub outgoing-bytes : (l : List Attribute) (s : ℕ) (asn : Option ℕ)
       → encode (rewritten dropped flags (told_tag s) (told_otc asn) l)
       ≡ encode (turned_all dropped s (front (ltb 16) l)) ++ (new_tag_bytes flags (length (left dropped l)) s
-      ++ (encode (turned_all dropped s (front (ltb 35) (back (ltb 16) l))) ++ (new_otc_bytes flags (cond (has_otc l) 0 asn) ++ encode (turned_all dropped s (back (ltb 35) (back (ltb 16) l))))))
+      ++ (encode (turned_all dropped s (front (ltb 35) (back (ltb 16) l))) ++ (new_otc_bytes flags (cond (has_otc l) None asn) ++ encode (turned_all dropped s (back (ltb 35) (back (ltb 16) l))))))
   unfolding U N B
   outgoing-bytes l s asn =
       ap encode (rewritten-is s l asn)
       ∙ encode-append (U s l asn) _ ∙ ap (λ (z : List ℕ). encode (U s l asn) ++ z)
       (encode-append (N s l asn) _ ∙ ap (λ (z : List ℕ). encode (N s l asn) ++ z)
       (encode-append (front (ltb 35) (B s l asn)) _ ∙ ap (λ (z : List ℕ). encode (front (ltb 35) (B s l asn)) ++ z)
-      (encode-append (new_otcs flags (cond (has_otc l) 0 asn)) (back (ltb 35) (B s l asn)))))
-      ∙ rw (new_tags-bytes (length (left dropped l)) s, new_otcs-bytes (cond (has_otc l) 0 asn), turned-front dropped (ltb 16) refl s l, turned-back dropped (ltb 16) refl s l, turned-front dropped (ltb 35) refl s (back (ltb 16) l), turned-back dropped (ltb 35) refl s (back (ltb 16) l)) refl
+      (encode-append (new_otcs flags (cond (has_otc l) None asn)) (back (ltb 35) (B s l asn)))))
+      ∙ rw (new_tags-bytes (length (left dropped l)) s, new_otcs-bytes (cond (has_otc l) None asn), turned-front dropped (ltb 16) refl s l, turned-back dropped (ltb 16) refl s l, turned-front dropped (ltb 35) refl s (back (ltb 16) l), turned-back dropped (ltb 35) refl s (back (ltb 16) l)) refl

@@ -14,6 +14,7 @@ use Rattle.rules.specs.Attributes.{encode_one, communities_type}
 use Rattle.rules.specs.Changes.{tag, new_attribute}
 use Rattle.communities.specs.Tags.{drop_test}
 use Rattle.rewriting.specs.declared.plan.Plan.{Plan}
+use Rattle.std.specs.Prelude.{Option, Some, None}
 use Rattle.rewriting.specs.Plan.{community_bytes, new_tag_bytes, new_otc_bytes, item, piece, Clear, Leaving}
 
 -- A new tag: none where a community is left or no state is to be told.
@@ -35,13 +36,13 @@ unfolding new_tag_bytes encode_one new_attribute tag
 new_tag-is flags left state e h = rw (eq-eqb left 0 e, le-leb state 2 h)
 
 -- A new OTC: none where no AS is to be named.
-pub new_otc-none : (flags asn : ℕ) → asn ≡ 0 → new_otc_bytes flags asn ≡ []
+pub new_otc-none : (flags : ℕ) {otc : Option ℕ} → otc ≡ None → new_otc_bytes flags otc ≡ []
 unfolding new_otc_bytes
-new_otc-none flags asn e = rw (eq-eqb asn 0 e)
+new_otc-none flags e = rw e refl
 
-pub new_otc-is : (flags asn : ℕ) → (asn ≡ 0 → ⊥) → new_otc_bytes flags asn ≡ (flags ∷ 35 ∷ 4 ∷ []) ++ bytes4 asn
+pub new_otc-is : (flags : ℕ) {asn : ℕ} {otc : Option ℕ} → otc ≡ Some asn → new_otc_bytes flags otc ≡ (flags ∷ 35 ∷ 4 ∷ []) ++ bytes4 asn
 unfolding new_otc_bytes encode_one new_attribute bytes4
-new_otc-is flags asn h = rw (ne_eqb asn 0 h)
+new_otc-is flags e = rw e refl
 
 -- The bytes from one place to another.
 module _ (b : List ℕ) (p : Plan) (from to : ℕ) where
@@ -58,13 +59,13 @@ module _ (b : List ℕ) (p : Plan) (from to : ℕ) where
   pub piece-split : from ≤ p.communities → p.communities < to
       → piece b p from to
       ≡ take (p.communities - from) (drop from b)
-      ++ (community_bytes (drop_test p.test) p.tag (take (p.rest - p.communities) (drop p.communities b)) ++ take (to - p.rest) (drop p.rest b))
+      ++ (community_bytes (drop_test p.dropping) p.tag (take (p.rest - p.communities) (drop p.communities b)) ++ take (to - p.rest) (drop p.rest b))
   unfolding piece item part
   piece-split f h = rw (le-leb from p.communities f, lt-ltb p.communities to h)
 
 -- The bytes up to where the attribute ends are the attribute.
-pub item-leaving : (b : List ℕ) (p : Plan) → Leaving (drop_test p.test) (item b p) p.left → {end : ℕ} → p.rest ≡ end
-    → Leaving (drop_test p.test) (take (end - p.communities) (drop p.communities b)) p.left
+pub item-leaving : (b : List ℕ) (p : Plan) → Leaving (drop_test p.dropping) (item b p) p.left → {end : ℕ} → p.rest ≡ end
+    → Leaving (drop_test p.dropping) (take (end - p.communities) (drop p.communities b)) p.left
 unfolding item part
 item-leaving b p w e = rw (← e) w
 

@@ -14,6 +14,7 @@ use Rattle.rules.proofs.Blocks.{All, Framed, attribute-encode, encoded_pos}
 use Rattle.rules.proofs.Parts.{is, count, count_cons, size, size_cons, encode-append}
 use Rattle.attributes.specs.Layout.{place_of}
 use Rattle.communities.specs.Tags.{drop_test, tag_bytes}
+use Rattle.communities.specs.declared.tags.Dropping.{Dropping}
 use Rattle.rewriting.specs.Plan.{turned, turned_all, left_of, community_bytes, item, piece}
 use Rattle.rewriting.specs.declared.plan.Plan.{Plan}
 use Rattle.rewriting.proofs.Turned.{turned-append}
@@ -39,7 +40,7 @@ turned-found dropped s f n h =
     ∙ ap (λ (z : List ℕ). encode f.before ++ z)
     (encode-append (turned dropped s f.here) f.after ∙ ap (λ (z : List ℕ). z ++ encode f.after) (community-is dropped s f.here h f.type))
 
-module _ (test s : ℕ) (u m v : List Attribute) (once : count 16 (u ++ (m ++ v)) ≤ 1) (framed : All Framed (u ++ (m ++ v))) (p : Plan) (test_is : p.test ≡ test) (tag_is : p.tag ≡ s)
+module _ (dropping : Dropping) (s : ℕ) (u m v : List Attribute) (once : count 16 (u ++ (m ++ v)) ≤ 1) (framed : All Framed (u ++ (m ++ v))) (p : Plan) (dropping_is : p.dropping ≡ dropping) (tag_is : p.tag ≡ s)
     (placeIs : p.communities ≡ place_of 16 (u ++ (m ++ v))) (restIs : p.rest ≡ past_communities (u ++ (m ++ v))) where
   counts : count 16 u + (count 16 m + count 16 v) ≤ 1
   counts = omega (arith, once, count-append u (m ++ v), count-append m v)
@@ -76,9 +77,9 @@ module _ (test s : ℕ) (u m v : List Attribute) (once : count 16 (u ++ (m ++ v)
     unfolding encode flat_map
     bytes = ap encode shape ∙ encode-append (u ++ f.before) (f.here ∷ (f.after ++ v)) ∙ rw (encode-append u f.before, encode-append f.after v) (append_assoc (encode u) (encode f.before) _)
 
-    rewritten : encode (turned_all (drop_test test) s m) ≡ encode f.before ++ (community_bytes (drop_test test) s (encode_one f.here) ++ encode f.after)
+    rewritten : encode (turned_all (drop_test dropping) s m) ≡ encode f.before ++ (community_bytes (drop_test dropping) s (encode_one f.here) ++ encode f.after)
     rewritten =
-        turned-found (drop_test test) s f (has-zero f.after (omega (arith, counts, m-count, here-count)))
+        turned-found (drop_test dropping) s f (has-zero f.after (omega (arith, counts, m-count, here-count)))
         (framed_middle (u ++ f.before) f.here (f.after ++ v) (subst (All Framed) shape framed))
 
     front-part : part (size u) (p.communities - size u) (encode (u ++ (m ++ v))) ≡ encode f.before
@@ -95,18 +96,18 @@ module _ (test s : ℕ) (u m v : List Attribute) (once : count 16 (u ++ (m ++ v)
         (part_middle (encode u ++ (encode f.before ++ encode_one f.here)) (encode f.after) (encode v)
         (omega (arith, past, length-append (encode u) (encode f.before ++ encode_one f.here), length-append (encode f.before) (encode_one f.here))) (omega (arith, past, m-size)))
 
-    piece-found : encode (turned_all (drop_test test) s m) ≡ piece (encode (u ++ (m ++ v))) p (size u) (size u + size m)
+    piece-found : encode (turned_all (drop_test dropping) s m) ≡ piece (encode (u ++ (m ++ v))) p (size u) (size u + size m)
     unfolding piece item
     piece-found =
-        rw (le-leb (size u) p.communities (omega (arith, at)), lt-ltb p.communities (size u + size m) (omega (arith, at, m-size, encoded_pos f.here)), front-part, here-part, after-part, test_is, tag_is) rewritten
+        rw (le-leb (size u) p.communities (omega (arith, at)), lt-ltb p.communities (size u + size m) (omega (arith, at, m-size, encoded_pos f.here)), front-part, here-part, after-part, dropping_is, tag_is) rewritten
 
   -- It does not.
   whole_part : part (size u) (size u + size m - size u) (encode (u ++ (m ++ v))) ≡ encode m
   whole_part = rw (encode-append u (m ++ v), encode-append m v) (part_middle (encode u) (encode m) (encode v) refl (omega arith))
 
-  piece-plain : has 16 m ≡ false → encode (turned_all (drop_test test) s m) ≡ piece (encode (u ++ (m ++ v))) p (size u) (size u + size m)
+  piece-plain : has 16 m ≡ false → encode (turned_all (drop_test dropping) s m) ≡ piece (encode (u ++ (m ++ v))) p (size u) (size u + size m)
   unfolding piece
-  piece-plain e = rw (turned_none (drop_test test) s m e, outside (has 16 u) refl, whole_part) refl
+  piece-plain e = rw (turned_none (drop_test dropping) s m e, outside (has 16 u) refl, whole_part) refl
     where
       outside : (z : Bool) → has 16 u ≡ z → leb (size u) p.communities && ltb p.communities (size u + size m) ≡ false
       outside true q =
@@ -119,9 +120,9 @@ module _ (test s : ℕ) (u m v : List Attribute) (once : count 16 (u ++ (m ++ v)
           let n : size (u ++ m) ≤ p.communities = rw placeIs (rw (← append_assoc u m v) (place_none (u ++ m) v (has-append u m q e))) in
           rw (le-ltb p.communities (size u + size m) (omega (arith, n, size-append u m))) (and-false (leb (size u) p.communities))
 
-  pub piece_is : encode (turned_all (drop_test test) s m) ≡ piece (encode (u ++ (m ++ v))) p (size u) (size u + size m)
+  pub piece_is : encode (turned_all (drop_test dropping) s m) ≡ piece (encode (u ++ (m ++ v))) p (size u) (size u + size m)
   piece_is = go (has 16 m) refl
     where
-      go : (z : Bool) → has 16 m ≡ z → encode (turned_all (drop_test test) s m) ≡ piece (encode (u ++ (m ++ v))) p (size u) (size u + size m)
+      go : (z : Bool) → has 16 m ≡ z → encode (turned_all (drop_test dropping) s m) ≡ piece (encode (u ++ (m ++ v))) p (size u) (size u + size m)
       go true e = piece-found (found m e)
       go false e = piece-plain e

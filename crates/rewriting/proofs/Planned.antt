@@ -20,6 +20,8 @@ use Rattle.rules.proofs.Dropping.{left}
 use Rattle.settings.specs.Told.{told_tag, told_otc}
 use Rattle.attributes.specs.Layout.{place, place_of, place_above}
 use Rattle.communities.specs.Tags.{drop_test}
+use Rattle.std.specs.Prelude.{Option, None}
+use Rattle.communities.specs.declared.tags.Dropping.{Dropping}
 use Rattle.rewriting.specs.Plan.{turned_all, left_of, community_bytes, new_tag_bytes, new_otc_bytes, item, piece, emitted, Clear, Whole, Leaving, PlanOk}
 use Rattle.rewriting.specs.declared.plan.Plan.{Plan}
 use Rattle.rewriting.proofs.Fronts.{front, back, front-back, front-size}
@@ -29,16 +31,16 @@ use Rattle.rewriting.proofs.Found.{past_communities, part_middle, size-append, l
 use Rattle.rewriting.proofs.Placed.{turned-found, piece_is}
 
 -- The plan of a block with the attributes l: its numbers are those of l.
-pub record PlanOf (l : List Attribute) (test flags s asn : ℕ) (p : Plan) : Type 0 where
+pub record PlanOf (l : List Attribute) (dropping : Dropping) (flags s : ℕ) (asn : Option ℕ) (p : Plan) : Type 0 where
   pub communities : p.communities ≡ place_of 16 l
   pub rest : p.rest ≡ past_communities l
-  pub left : p.left ≡ length (left (drop_test test) l)
+  pub left : p.left ≡ length (left (drop_test dropping) l)
   pub new_tag : p.new_tag ≡ place_above 16 l
   pub new_otc : p.new_otc ≡ place_above 35 l
-  pub test_is : p.test ≡ test
+  pub dropping_is : p.dropping ≡ dropping
   pub flags_is : p.flags ≡ flags
   pub tag : p.tag ≡ s
-  pub otc : p.otc ≡ cond (has_otc l) 0 asn
+  pub otc : p.otc ≡ cond (has_otc l) None asn
 
 -- ---- The three parts of a block
 
@@ -78,33 +80,33 @@ module _ (l : List Attribute) where
 
 -- ---- What the plan stands for
 
-module _ {l : List Attribute} (g : Good l) {test flags s asn : ℕ} {p : Plan} (o : PlanOf l test flags s asn p) where
+module _ {l : List Attribute} (g : Good l) {dropping : Dropping} {flags s : ℕ} {asn : Option ℕ} {p : Plan} (o : PlanOf l dropping flags s asn p) where
   framed : All Framed l
   framed = all_map (λ a h. h.0) l g.each
 
   piece-at : (u m v : List Attribute) → l ≡ u ++ (m ++ v) → {from to : ℕ} → from ≡ size u → to ≡ size u + size m
-      → encode (turned_all (drop_test test) s m) ≡ piece (encode l) p from to
+      → encode (turned_all (drop_test dropping) s m) ≡ piece (encode l) p from to
   piece-at u m v e q r =
       rw (q, r)
-      (subst (λ (z : List Attribute). encode (turned_all (drop_test test) s m) ≡ piece (encode z) p (size u) (size u + size m)) (sym e)
-      (piece_is test s u m v (subst (λ (z : List Attribute). count 16 z ≤ 1) e (g.once 16)) (subst (All Framed) e framed) p o.test_is o.tag
+      (subst (λ (z : List Attribute). encode (turned_all (drop_test dropping) s m) ≡ piece (encode z) p (size u) (size u + size m)) (sym e)
+      (piece_is dropping s u m v (subst (λ (z : List Attribute). count 16 z ≤ 1) e (g.once 16)) (subst (All Framed) e framed) p o.dropping_is o.tag
       (o.communities ∙ ap (place_of 16) e) (o.rest ∙ ap past_communities e)))
 
-  pub emitted-is : emitted (encode l) p ≡ encode (rewritten (drop_test test) flags (told_tag s) (told_otc asn) l)
+  pub emitted-is : emitted (encode l) p ≡ encode (rewritten (drop_test dropping) flags (told_tag s) (told_otc asn) l)
   unfolding emitted F M W
   emitted-is =
-      rw (← front-piece, ← middle_piece, ← last_piece, o.left, o.flags_is, o.tag, o.otc) (sym (outgoing-bytes (drop_test test) flags l s asn))
+      rw (← front-piece, ← middle_piece, ← last_piece, o.left, o.flags_is, o.tag, o.otc) (sym (outgoing-bytes (drop_test dropping) flags l s asn))
     where
-      front-piece : encode (turned_all (drop_test test) s (F l)) ≡ piece (encode l) p 0 p.new_tag
+      front-piece : encode (turned_all (drop_test dropping) s (F l)) ≡ piece (encode l) p 0 p.new_tag
       front-piece = piece-at [] (F l) (M l ++ W l) (parts l) (unfold encode flat_map in refl) (o.new_tag ∙ tag_place_lem l ∙ (unfold encode flat_map in omega arith))
 
-      middle_piece : encode (turned_all (drop_test test) s (M l)) ≡ piece (encode l) p p.new_tag p.new_otc
+      middle_piece : encode (turned_all (drop_test dropping) s (M l)) ≡ piece (encode l) p p.new_tag p.new_otc
       middle_piece = piece-at (F l) (M l) (W l) (parts l) (o.new_tag ∙ tag_place_lem l) (o.new_otc ∙ otc_place_lem l)
 
       last_parts : l ≡ (F l ++ M l) ++ (W l ++ [])
       last_parts = parts l ∙ sym (append_assoc (F l) (M l) (W l)) ∙ ap (λ (z : List Attribute). (F l ++ M l) ++ z) (sym (append-nil (W l)))
 
-      last_piece : encode (turned_all (drop_test test) s (W l)) ≡ piece (encode l) p p.new_otc (length (encode l))
+      last_piece : encode (turned_all (drop_test dropping) s (W l)) ≡ piece (encode l) p p.new_otc (length (encode l))
       last_piece =
           piece-at (F l ++ M l) (W l) [] last_parts (o.new_otc ∙ otc_place_lem l ∙ sym (size-append (F l) (M l)))
           (ap size (parts l ∙ sym (append_assoc (F l) (M l) (W l))) ∙ size-append (F l ++ M l) (W l))
@@ -147,11 +149,11 @@ module _ {l : List Attribute} (g : Good l) {test flags s asn : ℕ} {p : Plan} (
         ap (part p.communities (p.rest - p.communities)) (ap encode f.whole ∙ encode-append f.before (f.here ∷ f.after))
         ∙ part_middle (encode f.before) (encode_one f.here) (encode f.after) at (omega (arith, at, past))
 
-    left_is : p.left ≡ length (left_of (drop_test test) (item (encode l) p))
+    left_is : p.left ≡ length (left_of (drop_test dropping) (item (encode l) p))
     unfolding left_of
     left_is =
-        o.left ∙ ap length (ap (left (drop_test test)) f.whole ∙ left_one (drop_test test) f.before f.here f.after f.none f.type after_none)
-        ∙ sym (ap (λ (z : List ℕ). length (drop_from (drop_test test) (attribute z).value)) item-is ∙ ap (λ (z : Attribute). length (drop_from (drop_test test) z.value)) (attribute-encode f.here here-framed))
+        o.left ∙ ap length (ap (left (drop_test dropping)) f.whole ∙ left_one (drop_test dropping) f.before f.here f.after f.none f.type after_none)
+        ∙ sym (ap (λ (z : List ℕ). length (drop_from (drop_test dropping) (attribute z).value)) item-is ∙ ap (λ (z : Attribute). length (drop_from (drop_test dropping) z.value)) (attribute-encode f.here here-framed))
 
     whole_is : Whole (item (encode l) p)
     unfolding encode_one
@@ -163,11 +165,11 @@ module _ {l : List Attribute} (g : Good l) {test flags s asn : ℕ} {p : Plan} (
         })
 
     -- how long all of it is once the attribute is rewritten
-    pub turned_size_lem : size (turned_all (drop_test test) s l) + length (encode_one f.here) ≡ size l + length (community_bytes (drop_test test) s (item (encode l) p))
+    pub turned_size_lem : size (turned_all (drop_test dropping) s l) + length (encode_one f.here) ≡ size l + length (community_bytes (drop_test dropping) s (item (encode l) p))
     turned_size_lem =
-        let e = ap length (turned-found (drop_test test) s f after_none here-framed) in
-        let q = ap (λ (z : List ℕ). length (community_bytes (drop_test test) s z)) item-is in
-        omega (arith, e, q, sizes, length-append (encode f.before) (community_bytes (drop_test test) s (encode_one f.here) ++ encode f.after), length-append (community_bytes (drop_test test) s (encode_one f.here)) (encode f.after))
+        let e = ap length (turned-found (drop_test dropping) s f after_none here-framed) in
+        let q = ap (λ (z : List ℕ). length (community_bytes (drop_test dropping) s z)) item-is in
+        omega (arith, e, q, sizes, length-append (encode f.before) (community_bytes (drop_test dropping) s (encode_one f.here) ++ encode f.after), length-append (community_bytes (drop_test dropping) s (encode_one f.here)) (encode f.after))
 
   -- A place before the end is that of one.
   there : p.communities < size l → Found l
@@ -185,13 +187,13 @@ module _ {l : List Attribute} (g : Good l) {test flags s asn : ℕ} {p : Plan} (
           let f = found l e in
           omega (
             arith,
-            ap length (ap (left (drop_test test)) f.whole ∙ left_one (drop_test test) f.before f.here f.after f.none f.type (after_none f)),
+            ap length (ap (left (drop_test dropping)) f.whole ∙ left_one (drop_test dropping) f.before f.here f.after f.none f.type (after_none f)),
             o.left,
-            drop_le (drop_test test) f.here.value,
+            drop_le (drop_test dropping) f.here.value,
             sizes f,
             value-le f.here,
           )
-      go false e = omega (arith, o.left, ap length (left-none (drop_test test) l e))
+      go false e = omega (arith, o.left, ap length (left-none (drop_test dropping) l e))
 
   total : size l ≡ size (F l) + (size (M l) + size (W l))
   total = ap size (parts l) ∙ size-append (F l) (M l ++ W l) ∙ ap (λ (n : ℕ). size (F l) + n) (size-append (M l) (W l))
@@ -201,7 +203,7 @@ module _ {l : List Attribute} (g : Good l) {test flags s asn : ℕ} {p : Plan} (
       record {
         from = omega (arith, o.communities, o.rest, place-le-past l);
         to = omega (arith, o.rest, past-le l);
-        leaving = λ q. subst (λ (t : ℕ). Leaving (drop_test t) (item (encode l) p) p.left) (sym o.test_is) (record { whole = whole_is (there q); is = left_is (there q); few = omega (arith, few) });
+        leaving = λ q. subst (λ (t : Dropping). Leaving (drop_test t) (item (encode l) p) p.left) (sym o.dropping_is) (record { whole = whole_is (there q); is = left_is (there q); few = omega (arith, few) });
         tag_place = omega (arith, o.new_tag, o.new_otc, tag_place_lem l, otc_place_lem l);
         otc_place = omega (arith, o.new_otc, otc_place_lem l, total);
         tag_clear = subst (Clear p) (sym (o.new_tag ∙ tag_place_lem l)) (clear_at (F l) (M l ++ W l) (parts l));
@@ -211,20 +213,20 @@ module _ {l : List Attribute} (g : Good l) {test flags s asn : ℕ} {p : Plan} (
       }
 
   -- How many bytes go out.
-  pub emitted-size : length (emitted (encode l) p) ≡ size (turned_all (drop_test test) s l) + length (new_tag_bytes flags p.left s) + length (new_otc_bytes flags p.otc)
+  pub emitted-size : length (emitted (encode l) p) ≡ size (turned_all (drop_test dropping) s l) + length (new_tag_bytes flags p.left s) + length (new_otc_bytes flags p.otc)
   unfolding F M W
   emitted-size =
       omega (
         arith,
-        ap length (emitted-is ∙ outgoing-bytes (drop_test test) flags l s asn),
+        ap length (emitted-is ∙ outgoing-bytes (drop_test dropping) flags l s asn),
         turned-total,
-        length-five (encode (turned_all (drop_test test) s (F l))) (new_tag_bytes flags (length (left (drop_test test) l)) s) (encode (turned_all (drop_test test) s (M l))) (new_otc_bytes flags (cond (has_otc l) 0 asn)) (encode (turned_all (drop_test test) s (W l))),
+        length-five (encode (turned_all (drop_test dropping) s (F l))) (new_tag_bytes flags (length (left (drop_test dropping) l)) s) (encode (turned_all (drop_test dropping) s (M l))) (new_otc_bytes flags (cond (has_otc l) None asn)) (encode (turned_all (drop_test dropping) s (W l))),
         ap (λ (n : ℕ). length (new_tag_bytes flags n s)) o.left,
-        ap (λ (n : ℕ). length (new_otc_bytes flags n)) o.otc,
+        ap (λ (n : Option ℕ). length (new_otc_bytes flags n)) o.otc,
       )
     where
-      turned-total : size (turned_all (drop_test test) s l) ≡ size (turned_all (drop_test test) s (F l)) + (size (turned_all (drop_test test) s (M l)) + size (turned_all (drop_test test) s (W l)))
+      turned-total : size (turned_all (drop_test dropping) s l) ≡ size (turned_all (drop_test dropping) s (F l)) + (size (turned_all (drop_test dropping) s (M l)) + size (turned_all (drop_test dropping) s (W l)))
       turned-total =
-          ap (λ (z : List Attribute). size (turned_all (drop_test test) s z)) (parts l)
-          ∙ ap size (turned-append (drop_test test) s (F l) (M l ++ W l)) ∙ size-append (turned_all (drop_test test) s (F l)) (turned_all (drop_test test) s (M l ++ W l))
-          ∙ ap (λ (n : ℕ). size (turned_all (drop_test test) s (F l)) + n) (ap size (turned-append (drop_test test) s (M l) (W l)) ∙ size-append (turned_all (drop_test test) s (M l)) (turned_all (drop_test test) s (W l)))
+          ap (λ (z : List Attribute). size (turned_all (drop_test dropping) s z)) (parts l)
+          ∙ ap size (turned-append (drop_test dropping) s (F l) (M l ++ W l)) ∙ size-append (turned_all (drop_test dropping) s (F l)) (turned_all (drop_test dropping) s (M l ++ W l))
+          ∙ ap (λ (n : ℕ). size (turned_all (drop_test dropping) s (F l)) + n) (ap size (turned-append (drop_test dropping) s (M l) (W l)) ∙ size-append (turned_all (drop_test dropping) s (M l)) (turned_all (drop_test dropping) s (W l)))

@@ -24,6 +24,8 @@ use Rattle.attributes.specs.declared.layout.Layout.{Layout}
 use Rattle.attributes.proofs.Places.{place-le}
 use Rattle.attributes.proofs.Found.{value_of_lem, has_of}
 use Rattle.communities.specs.Tags.{drop_test}
+use Rattle.std.specs.Prelude.{Option, None}
+use Rattle.communities.specs.declared.tags.Dropping.{Dropping}
 use Rattle.rewriting.specs.Plan.{turned_all, left_of, community_bytes, new_tag_bytes, new_otc_bytes, item, emitted, Leaving, PlanOk, Planned, ReadBlock, Sizing, turned_size}
 use Rattle.rewriting.specs.declared.plan.Plan.{Plan}
 use Rattle.rewriting.proofs.Found.{past_communities, turned_none, Found, found, place_found, place_none, past-none, framed_middle, one_only, left-none, left_one}
@@ -120,9 +122,9 @@ part-size at k b = omega (arith, length-take k (drop at b))
 
 -- ---- The plan
 
-module _ {b : List ℕ} {lay : Layout} (read : ReadBlock b lay) (test flags s asn : ℕ)
-    {k : ℕ} (sized : SizeAt b lay.communities k) {n : ℕ} (leftIs : n ≡ length (drop_from (drop_test test) (value_at lay.communities b)))
-    {otc : ℕ} (otcIs : otc ≡ cond (ltb lay.otc (length b)) 0 asn) where
+module _ {b : List ℕ} {lay : Layout} (read : ReadBlock b lay) (dropping : Dropping) (flags s : ℕ) (asn : Option ℕ)
+    {k : ℕ} (sized : SizeAt b lay.communities k) {n : ℕ} (leftIs : n ≡ length (drop_from (drop_test dropping) (value_at lay.communities b)))
+    {otc : Option ℕ} (otcIs : otc ≡ cond (ltb lay.otc (length b)) None asn) where
   r : readable b ≡ true
   r = read.clean
 
@@ -146,18 +148,18 @@ module _ {b : List ℕ} {lay : Layout} (read : ReadBlock b lay) (test flags s as
   size_is = sized.is ∙ rw (place_is, bytes) refl
 
   abbrev planned : ℕ → Plan
-  planned size = record { communities = lay.communities; rest = lay.communities + k; left = n; new_tag = lay.new_tag; new_otc = lay.new_otc; size = size; test = test; flags = flags; tag = s; otc = otc }
+  planned size = record { communities = lay.communities; rest = lay.communities + k; left = n; new_tag = lay.new_tag; new_otc = lay.new_otc; size = size; dropping = dropping; flags = flags; tag = s; otc = otc }
 
-  plan_of : (z : ℕ) → PlanOf (attributes b) test flags s asn (planned z)
+  plan_of : (z : ℕ) → PlanOf (attributes b) dropping flags s asn (planned z)
   unfolding layout
   plan_of z =
       record {
         communities = place_is;
         rest = omega (arith, place_is, size_is, rest-is (attributes b) framed);
-        left = leftIs ∙ ap (λ (v : List ℕ). length (drop_from (drop_test test) v)) (rw place_is (value_of_lem 16 b r)) ∙ ap length (sym (left-value (drop_test test) (attributes b) (good.once 16)));
+        left = leftIs ∙ ap (λ (v : List ℕ). length (drop_from (drop_test dropping) v)) (rw place_is (value_of_lem 16 b r)) ∙ ap length (sym (left-value (drop_test dropping) (attributes b) (good.once 16)));
         new_tag = ap (λ (z : Layout). z.new_tag) e;
         new_otc = ap (λ (z : Layout). z.new_otc) e;
-        test_is = refl;
+        dropping_is = refl;
         flags_is = refl;
         tag = refl;
         otc = otcIs ∙ rw (ap (λ (z : Layout). z.otc) e) (unfold has_otc in rw (has_of 35 b r) refl);
@@ -170,41 +172,41 @@ module _ {b : List ℕ} {lay : Layout} (read : ReadBlock b lay) (test flags s as
   unfolding item
   item-at z = let d : lay.communities + k - lay.communities ≡ k = omega arith in rw d refl
 
-  leaving : (k ≡ 0 → ⊥) → Leaving (drop_test test) (part lay.communities k b) n
-  leaving z = subst (λ (a : List ℕ). Leaving (drop_test test) a n) (item-at 0) ((ok 0).leaving (omega (arith, sized.within z)))
+  leaving : (k ≡ 0 → ⊥) → Leaving (drop_test dropping) (part lay.communities k b) n
+  leaving z = subst (λ (a : List ℕ). Leaving (drop_test dropping) a n) (item-at 0) ((ok 0).leaving (omega (arith, sized.within z)))
 
-  pub plan_left : (k ≡ 0 → ⊥) → n ≡ length (left_of (drop_test test) (part lay.communities k b))
+  pub plan_left : (k ≡ 0 → ⊥) → n ≡ length (left_of (drop_test dropping) (part lay.communities k b))
   plan_left z = (leaving z).is
 
   pub plan_sizing : Sizing b lay.communities k n
   plan_sizing = record { within = sized.within; whole = λ z. (leaving z).whole; few = few; small = read.small }
     where
       few : (k ≡ 0 → ⊥) → n ≤ k
-      few z = omega (arith, (leaving z).is, left_le (drop_test test) (part lay.communities k b), part-size lay.communities k b)
+      few z = omega (arith, (leaving z).is, left_le (drop_test dropping) (part lay.communities k b), part-size lay.communities k b)
 
   pub plan_rest : lay.communities + k ≤ length b
   plan_rest = (ok 0).to
 
-  turned-is : (z : ℕ) → size (turned_all (drop_test test) s (attributes b)) ≡ turned_size (drop_test test) b lay.communities k s
+  turned-is : (z : ℕ) → size (turned_all (drop_test dropping) s (attributes b)) ≡ turned_size (drop_test dropping) b lay.communities k s
   unfolding turned_size
   turned-is z = go (eqb k 0) refl
     where
       go : (x : Bool) → eqb k 0 ≡ x
-          → size (turned_all (drop_test test) s (attributes b)) ≡ cond x (length b) (length b - k + length (community_bytes (drop_test test) s (part lay.communities k b)))
+          → size (turned_all (drop_test dropping) s (attributes b)) ≡ cond x (length b) (length b - k + length (community_bytes (drop_test dropping) s (part lay.communities k b)))
       go true q =
           let z : fit attribute_size (drop (place_of 16 (attributes b)) (encode (attributes b))) ≡ 0 = sym size_is ∙ eqb-true k 0 q in
-          ap size (turned_none (drop_test test) s (attributes b) (absent (attributes b) framed z)) ∙ ap length bytes
+          ap size (turned_none (drop_test dropping) s (attributes b) (absent (attributes b) framed z)) ∙ ap length bytes
       go false q =
           let f = present (attributes b) framed (λ z. eqb-false k 0 q (size_is ∙ z)) in
           let w : k ≡ length (encode_one f.here) = size_is ∙ fit_found (attributes b) framed f in
-          let c : length (community_bytes (drop_test test) s (item (encode (attributes b)) (planned z))) ≡ length (community_bytes (drop_test test) s (part lay.communities k b)) = rw (bytes, item-at z) refl in
+          let c : length (community_bytes (drop_test dropping) s (item (encode (attributes b)) (planned z))) ≡ length (community_bytes (drop_test dropping) s (part lay.communities k b)) = rw (bytes, item-at z) refl in
           omega (arith, turned_size_lem good (plan_of z) f, w, c, ap length bytes, sized.within (eqb-false k 0 q))
 
-  pub plan_made : {z : ℕ} → z ≡ turned_size (drop_test test) b lay.communities k s + length (new_tag_bytes flags n s) + length (new_otc_bytes flags otc)
-      → Planned b test flags s asn (planned z)
+  pub plan_made : {z : ℕ} → z ≡ turned_size (drop_test dropping) b lay.communities k s + length (new_tag_bytes flags n s) + length (new_otc_bytes flags otc)
+      → Planned b dropping flags s asn (planned z)
   plan_made {z} q =
       record {
         ok = ok z;
-        is = subst (λ (x : List ℕ). emitted x (planned z) ≡ encode (rewritten (drop_test test) flags (told_tag s) (told_otc asn) (attributes b))) bytes (emitted-is good (plan_of z));
+        is = subst (λ (x : List ℕ). emitted x (planned z) ≡ encode (rewritten (drop_test dropping) flags (told_tag s) (told_otc asn) (attributes b))) bytes (emitted-is good (plan_of z));
         size = q ∙ sym (ap (λ (x : List ℕ). length (emitted x (planned z))) (sym bytes) ∙ emitted-size good (plan_of z) ∙ rw (turned-is z) refl);
       }

@@ -10,6 +10,7 @@ use Rattle.attributes.specs.Layout.{layout, value_at}
 use Rattle.attributes.specs.declared.layout.Layout.{Layout}
 use Rattle.attributes.proofs.Found.{value_of_lem}
 use Rattle.communities.specs.Tags.{drop_test}
+use Rattle.communities.specs.declared.tags.Dropping.{Dropping}
 use Rattle.rewriting.specs.Plan.{ReadBlock, LeftIn}
 
 module _ {b : List ℕ} {l : Layout} (w : ReadBlock b l) {v : List ℕ} (e : v ≡ value_at l.communities b) where
@@ -20,5 +21,5 @@ module _ {b : List ℕ} {l : Layout} (w : ReadBlock b l) {v : List ℕ} (e : v �
   pub thrown-found : {n : ℕ} → n ≡ thrown_out v → n ≡ thrown_out (value_of communities_type (attributes b))
   thrown-found q = q ∙ ap thrown_out communities-found
 
-  pub left-found : (test : ℕ) {n : ℕ} → n ≡ length (drop_from (drop_test test) v) → LeftIn b l test n
-  left-found test q = q ∙ ap (λ (v : List ℕ). length (drop_from (drop_test test) v)) e
+  pub left-found : (dropping : Dropping) {n : ℕ} → n ≡ length (drop_from (drop_test dropping) v) → LeftIn b l dropping n
+  left-found dropping q = q ∙ ap (λ (v : List ℕ). length (drop_from (drop_test dropping) v)) e

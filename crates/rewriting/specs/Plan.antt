@@ -1,6 +1,6 @@
 -- What is planned for a block before any byte of it is stored, and the bytes that the plan stands for. Internal: `rewritten` of
 -- `rules` says what they come to.
-use Rattle.std.specs.Prelude.{◌≡◌, Bool, true, cond, ◌&&◌, ◌⊎◌, ℕ, ◌+◌, ◌-◌, ◌≤◌, ◌<◌, leb, ltb, eqb, length, get_or}
+use Rattle.std.specs.Prelude.{◌≡◌, Bool, true, cond, ◌&&◌, ◌⊎◌, ℕ, ◌+◌, ◌-◌, ◌≤◌, ◌<◌, leb, ltb, eqb, length, get_or, Option, Some, None}
 use mathlib.Core.List.{List, [], ◌∷◌, ◌++◌, flat_map}
 use Rattle.rules.specs.Bytes.{part, is_empty, bytes2, bytes4}
 use Rattle.rules.specs.Settings.{block_max, invalid}
@@ -10,6 +10,7 @@ use Rattle.settings.specs.Told.{told_tag, told_otc}
 use Rattle.attributes.specs.Layout.{layout, value_at}
 use Rattle.attributes.specs.declared.layout.Layout.{Layout}
 use Rattle.communities.specs.Tags.{drop_test, tag_bytes}
+use Rattle.communities.specs.declared.tags.Dropping.{Dropping}
 use Rattle.rewriting.specs.declared.plan.Plan.{Plan}
 
 -- The flags of an attribute that gets a value of n bytes: a short form that n passes becomes long; and its header.
@@ -48,15 +49,17 @@ turned_all dropped state l = flat_map (turned dropped state) l
 unfoldable pub new_tags : ℕ → ℕ → ℕ → List Attribute
 new_tags flags left state = cond (eqb left 0 && leb state invalid) (new_attribute flags communities_type (tag state) ∷ []) []
 
-unfoldable pub new_otcs : ℕ → ℕ → List Attribute
-new_otcs flags asn = cond (eqb asn 0) [] (new_attribute flags otc_type (bytes4 asn) ∷ [])
+unfoldable pub new_otcs : ℕ → Option ℕ → List Attribute
+new_otcs flags None = []
+new_otcs flags (Some asn) = new_attribute flags otc_type (bytes4 asn) ∷ []
 
 -- The bytes of new ones.
 unfoldable pub new_tag_bytes : ℕ → ℕ → ℕ → List ℕ
 new_tag_bytes flags left state = cond (eqb left 0 && leb state invalid) (encode_one (new_attribute flags communities_type (tag state))) []
 
-unfoldable pub new_otc_bytes : ℕ → ℕ → List ℕ
-new_otc_bytes flags asn = cond (eqb asn 0) [] (encode_one (new_attribute flags otc_type (bytes4 asn)))
+unfoldable pub new_otc_bytes : ℕ → Option ℕ → List ℕ
+new_otc_bytes flags None = []
+new_otc_bytes flags (Some asn) = encode_one (new_attribute flags otc_type (bytes4 asn))
 
 -- The communities attribute of a block, by its plan.
 unfoldable pub item : List ℕ → Plan → List ℕ
@@ -66,7 +69,7 @@ item b p = part p.communities (p.rest - p.communities) b
 unfoldable pub piece : List ℕ → Plan → ℕ → ℕ → List ℕ
 piece b p from to =
     cond (leb from p.communities && ltb p.communities to)
-    (part from (p.communities - from) b ++ (community_bytes (drop_test p.test) p.tag (item b p) ++ part p.rest (to - p.rest) b))
+    (part from (p.communities - from) b ++ (community_bytes (drop_test p.dropping) p.tag (item b p) ++ part p.rest (to - p.rest) b))
     (part from (to - from) b)
 
 -- All of it: the new tag and the new OTC at their places.
@@ -93,7 +96,7 @@ pub record Leaving (dropped : List ℕ → Bool) (a : List ℕ) (left : ℕ) : T
 pub record PlanOk (b : List ℕ) (p : Plan) : Type 0 where
   pub from : p.communities ≤ p.rest
   pub to : p.rest ≤ length b
-  pub leaving : p.communities < length b → Leaving (drop_test p.test) (item b p) p.left
+  pub leaving : p.communities < length b → Leaving (drop_test p.dropping) (item b p) p.left
   pub tag_place : p.new_tag ≤ p.new_otc
   pub otc_place : p.new_otc ≤ length b
   pub tag_clear : Clear p p.new_tag
@@ -110,13 +113,12 @@ pub record Stands (b : List ℕ) (m : List Attribute) (p : Plan) : Type 0 where
   pub is : emitted b p ≡ encode m
   pub size : p.size ≡ length (emitted b p)
 
--- What `rules` makes of a block with the test of what is dropped, the flags, the state of a tag and the AS of an OTC that these numbers stand
--- for; and a plan that stands for it.
-abbrev pub outgoing : ℕ → ℕ → ℕ → ℕ → List ℕ → List Attribute
-outgoing test flags state asn b = rewritten (drop_test test) flags (told_tag state) (told_otc asn) (attributes b)
+-- What `rules` makes of a block with what is dropped, the flags, the state of a tag and the AS of an OTC; and a plan that stands for it.
+abbrev pub outgoing : Dropping → ℕ → ℕ → Option ℕ → List ℕ → List Attribute
+outgoing dropping flags state asn b = rewritten (drop_test dropping) flags (told_tag state) (told_otc asn) (attributes b)
 
-abbrev pub Planned : List ℕ → ℕ → ℕ → ℕ → ℕ → Plan → Type 0
-Planned b test flags state asn p = Stands b (outgoing test flags state asn b) p
+abbrev pub Planned : List ℕ → Dropping → ℕ → ℕ → Option ℕ → Plan → Type 0
+Planned b dropping flags state asn p = Stands b (outgoing dropping flags state asn b) p
 
 -- A block that has been read: it is readable, not too long, and the layout is its own.
 pub record ReadBlock (b : List ℕ) (l : Layout) : Type 0 where
@@ -124,9 +126,9 @@ pub record ReadBlock (b : List ℕ) (l : Layout) : Type 0 where
   pub is : l ≡ layout (attributes b)
   pub small : length b ≤ block_max
 
--- How many bytes of communities are left in it, by the test of what is dropped.
-abbrev pub LeftIn : List ℕ → Layout → ℕ → ℕ → Type 0
-LeftIn b l test left = left ≡ length (drop_from (drop_test test) (value_at l.communities b))
+-- How many bytes of communities are left in it, by which are dropped.
+abbrev pub LeftIn : List ℕ → Layout → Dropping → ℕ → Type 0
+LeftIn b l dropping left = left ≡ length (drop_from (drop_test dropping) (value_at l.communities b))
 
 -- What the size of a block as it goes out is found from: its communities attribute, k bytes at a place (none where k is 0), and the
 -- bytes of communities left in it.

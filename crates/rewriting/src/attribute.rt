@@ -7,7 +7,7 @@ ghost use Rattle.rewriting.specs.Plan.{value_flags, header, left_of, community_b
 
 use attributes::values::{header_size, is_long};
 use communities::left::put_left;
-use communities::tags::{put_tag, tag_size};
+use communities::tags::{Dropping, put_tag, tag_size};
 use octets::buffer::put;
 
 // The flags of an attribute that gets a value of n bytes: a short form that n passes becomes long. Internal.
@@ -38,12 +38,12 @@ fn put_header(flags: u8, kind: u8, n: usize, out: &mut [u8], at: usize) -> usize
 }
 
 // Stores what is left of the value of a communities attribute, and a tag. Internal.
-fn put_value(a: &[u8], test: u8, state: u8, out: &mut [u8], at: usize) -> usize
-    requires { (Whole a.now) × (at + length (left_of (drop_test test) a.now ++ tag_bytes state) ≤ length out.old) }
-    ensures { Stored out.old at (left_of (drop_test test) a.now ++ tag_bytes state) result out.new }
+fn put_value(a: &[u8], dropping: Dropping, state: u8, out: &mut [u8], at: usize) -> usize
+    requires { (Whole a.now) × (at + length (left_of (drop_test dropping) a.now ++ tag_bytes state) ≤ length out.old) }
+    ensures { Stored out.old at (left_of (drop_test dropping) a.now ++ tag_bytes state) result out.new }
 {
     let h = header_size(a[0]);
-    let w = put_left(test, &a[h..], out, at);
+    let w = put_left(dropping, &a[h..], out, at);
     put_tag(state, out, w)
 }
 
@@ -61,14 +61,21 @@ pub fn community_size(a: &[u8], left: usize, state: u8) -> usize
 }
 
 // Stores it. Internal.
-pub fn put_community(a: &[u8], left: usize, test: u8, state: u8, out: &mut [u8], at: usize) -> usize
-    requires { (Leaving (drop_test test) a.now left) × (at + length (community_bytes (drop_test test) state a.now) ≤ length out.old) }
-    ensures { Stored out.old at (community_bytes (drop_test test) state a.now) result out.new }
+pub fn put_community(
+    a: &[u8],
+    left: usize,
+    dropping: Dropping,
+    state: u8,
+    out: &mut [u8],
+    at: usize,
+) -> usize
+    requires { (Leaving (drop_test dropping) a.now left) × (at + length (community_bytes (drop_test dropping) state a.now) ≤ length out.old) }
+    ensures { Stored out.old at (community_bytes (drop_test dropping) state a.now) result out.new }
 {
     if left == 0 {
         return at;
     }
     let n = left + tag_size(state);
     let w = put_header(a[0], a[1], n, out, at);
-    put_value(a, test, state, out, w)
+    put_value(a, dropping, state, out, w)
 }

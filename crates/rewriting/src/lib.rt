@@ -14,47 +14,55 @@ ghost use Rattle.rewriting.specs.Stores.{Measures, Rewrites, Counts};
 use attributes::layout::Layout;
 use attributes::value;
 use communities::left::sift;
-use plan::Output;
+use communities::tags::Dropping;
+use plan::Written;
 use planner::make_plan;
 use rules::BLOCK_MAX;
 use writer::write;
 
 // How long a block that has been read is as it goes out. Nothing is stored, and of the block only its communities are walked. Internal.
-pub fn measure(block: &[u8], layout: Layout, test: u8, flags: u8, tag: u8, asn: u32) -> usize
+pub fn measure(
+    block: &[u8],
+    layout: Layout,
+    dropping: Dropping,
+    flags: u8,
+    tag: u8,
+    asn: Option<u32>,
+) -> usize
     requires { ReadBlock block.now layout }
-    ensures { Measures test flags tag asn block.now result }
+    ensures { Measures dropping flags tag asn block.now result }
 {
-    let left = sift(test, value(block, layout.communities)).left;
-    let plan = make_plan(block, layout, left, test, flags, tag, asn);
+    let left = sift(dropping, value(block, layout.communities)).left;
+    let plan = make_plan(block, layout, left, dropping, flags, tag, asn);
     plan.size
 }
 
-// Stores a block that has been read as it goes out, with the state of a tag (3: none) and the AS of an OTC (0: none), and tells how
-// many of its tags are thrown out, found in the walk for the length; or says that there is no room. Internal.
+// Stores a block that has been read as it goes out, with the state of a tag (3: none) and the AS of an OTC, if any, and tells how many
+// of its tags are thrown out, found in the walk for the length; nothing where there is no room. Internal.
 pub fn store(
     block: &[u8],
     layout: Layout,
-    test: u8,
+    dropping: Dropping,
     flags: u8,
     tag: u8,
-    asn: u32,
+    asn: Option<u32>,
     out: &mut [u8],
-) -> Output
+) -> Option<Written>
     requires { ReadBlock block.now layout }
-    ensures { (Rewrites test flags tag asn block.now out.old result out.new) × (Counts block.now result) }
+    ensures { (Rewrites dropping flags tag asn block.now out.old result out.new) × (Counts block.now result) }
 {
-    let sifted = sift(test, value(block, layout.communities));
-    let plan = make_plan(block, layout, sifted.left, test, flags, tag, asn);
+    let sifted = sift(dropping, value(block, layout.communities));
+    let plan = make_plan(block, layout, sifted.left, dropping, flags, tag, asn);
     let size = plan.size;
     if out.len() < size {
-        return Output::Full;
+        return None;
     }
     let most = BLOCK_MAX;
     if most < size {
-        return Output::Full;
+        return None;
     }
-    Output::Bytes {
+    Some(Written {
         length: write(block, plan, out),
         thrown_out: sifted.thrown_out,
-    }
+    })
 }

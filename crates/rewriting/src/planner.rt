@@ -1,5 +1,5 @@
 // The plan for a block: which bytes go out, and how many, before the first is stored. All of it is internal.
-ghost use Rattle.std.specs.Prelude.{◌≡◌, cond, ℕ, ◌+◌, ◌≤◌, ltb, length};
+ghost use Rattle.std.specs.Prelude.{◌≡◌, None, cond, ℕ, ◌+◌, ◌≤◌, ltb, length};
 ghost use Rattle.rules.specs.Settings.{block_max};
 ghost use Rattle.rewriting.specs.Plan.{new_tag_bytes, new_otc_bytes, Planned, ReadBlock, LeftIn, Sizing, TurnedSize};
 
@@ -7,6 +7,7 @@ use super::attribute::community_size;
 use super::plan::Plan;
 use attributes::attribute_size;
 use attributes::layout::Layout;
+use communities::tags::Dropping;
 use settings::states::INVALID;
 
 // The sizes of a new tag attribute and of a new OTC.
@@ -14,11 +15,11 @@ const NEW_TAG_SIZE: usize = 11;
 
 const NEW_OTC_SIZE: usize = 7;
 
-// The AS that a new OTC names: none, 0, where the block has an OTC, which begins before its end. Internal.
-pub fn otc_to_add(place: usize, len: usize, asn: u32) -> u32
-    ensures { result ≡ cond (ltb place len) 0 asn }
+// The AS that a new OTC names: none where the block has an OTC, which begins before its end. Internal.
+pub fn otc_to_add(place: usize, len: usize, asn: Option<u32>) -> Option<u32>
+    ensures { result ≡ cond (ltb place len) None asn }
 {
-    if place < len { 0 } else { asn }
+    if place < len { None } else { asn }
 }
 
 // How many bytes a new tag attribute has. Internal.
@@ -35,13 +36,13 @@ fn new_tag_size(left: usize, state: u8) -> usize
 }
 
 // How many bytes a new OTC has. Internal.
-fn new_otc_size(asn: u32) -> usize
+fn new_otc_size(asn: Option<u32>) -> usize
     ensures { ((flags : ℕ) → result ≡ length (new_otc_bytes flags asn)) × (result ≤ 7) }
 {
-    if asn == 0 {
-        return 0;
+    match asn {
+        Some(_) => NEW_OTC_SIZE,
+        None => 0,
     }
-    NEW_OTC_SIZE
 }
 
 // How many bytes the attributes of a block have as they go out, whatever is dropped: its communities attribute is k bytes at a
@@ -57,19 +58,19 @@ fn turned_size(block: &[u8], at: usize, k: usize, left: usize, state: u8) -> usi
     block.len() - k + size
 }
 
-// The plan for a block that has been read: how many bytes of its communities are left, the test of what is dropped, the flags of new
-// attributes, the state of a tag (3: none) and the AS of an OTC (0: none). Internal.
+// The plan for a block that has been read: how many bytes of its communities are left, which are dropped, the flags of new attributes, the
+// state of a tag (3: none) and the AS of an OTC, if any. Internal.
 pub fn make_plan(
     block: &[u8],
     layout: Layout,
     left: usize,
-    test: u8,
+    dropping: Dropping,
     flags: u8,
     state: u8,
-    asn: u32,
+    asn: Option<u32>,
 ) -> Plan
-    requires { (ReadBlock block.now layout) × (LeftIn block.now layout test left) }
-    ensures { Planned block.now test flags state asn result }
+    requires { (ReadBlock block.now layout) × (LeftIn block.now layout dropping left) }
+    ensures { Planned block.now dropping flags state asn result }
 {
     let communities = layout.communities;
     let k = attribute_size(block, communities);
@@ -84,7 +85,7 @@ pub fn make_plan(
         new_tag: layout.new_tag,
         new_otc: layout.new_otc,
         size,
-        test,
+        dropping,
         flags,
         tag: state,
         otc,

@@ -39,13 +39,13 @@ fn put_new_tag(flags: u8, left: usize, state: u8, out: &mut [u8], at: usize) -> 
 }
 
 // Stores a new OTC, where there is an AS to name. Internal.
-fn put_new_otc(flags: u8, asn: u32, out: &mut [u8], at: usize) -> usize
+fn put_new_otc(flags: u8, asn: Option<u32>, out: &mut [u8], at: usize) -> usize
     requires { at + length (new_otc_bytes flags asn) ≤ length out.old }
     ensures { Stored out.old at (new_otc_bytes flags asn) result out.new }
 {
-    if asn == 0 {
+    let Some(asn) = asn else {
         return at;
-    }
+    };
     let header = [flags, OTC, 4];
     let value = put(&header, out, at);
     put_number4(asn, out, value)
@@ -68,7 +68,7 @@ fn put_piece(block: &[u8], plan: Plan, from: usize, to: usize, out: &mut [u8], a
     let end = put_community(
         &block[communities..rest],
         plan.left,
-        plan.test,
+        plan.dropping,
         plan.tag,
         out,
         start,

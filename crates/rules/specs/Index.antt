@@ -1,5 +1,5 @@
 -- 02, Q-7: an index over a table of VRPs. Its nodes are said of the table alone; how the lent memory holds them is the program's own.
-use Rattle.std.specs.Prelude.{ℕ, zero, suc, ◌+◌, ◌-◌, ◌/◌, ◌≤◌, ◌<◌, ◌≡◌, Bool, not, cond, ◌&&◌, ◌||◌, List, [], ◌∷◌, ◌++◌, leb, ltb, eqb, length, replicate}
+use Rattle.std.specs.Prelude.{ℕ, zero, suc, ◌+◌, ◌-◌, ◌/◌, ◌≤◌, ◌<◌, ◌≡◌, Bool, not, cond, ◌&&◌, ◌||◌, List, [], ◌∷◌, ◌++◌, leb, ltb, eqb, length, replicate, Result, Ok, Err}
 use Rattle.std.proofs.Math.Option.{some}
 use Rattle.rules.specs.Bytes.{exists}
 use Rattle.rules.specs.Answers.{Answer, done, refused, answer_number, beside_number, answer, order, ◌when◌}
@@ -7,10 +7,7 @@ use Rattle.rules.specs.Settings.{prefix_length_ok}
 use Rattle.rules.specs.Origin.{Vrp, vrps, vrp_size, agree, state_in, table_checks}
 use Rattle.rules.specs.declared.Refusal.{Refusal}
 use Rattle.rules.specs.declared.Refusal.TheVariants.{BadSetting, BadLength, NoRoom}
-use Rattle.rules.specs.declared.Indexed.{Indexed}
-use Rattle.rules.specs.declared.Indexed.TheVariants.{Nodes, Refused as NotIndexed}
 use Rattle.rules.specs.declared.LookedUp.{LookedUp}
-use Rattle.rules.specs.declared.LookedUp.TheVariants.{Found, Refused as NotLookedUp}
 
 -- How many numbers below n pass a test.
 unfoldable pub counted : (ℕ → Bool) → ℕ → ℕ
@@ -103,14 +100,10 @@ pub data Kept (Holds : ℕ → List ℕ → List ℕ → Type 0) (w : ℕ) : Lis
   refused_one : {table memory added memory' : List ℕ} {a : Answer ℕ} → Kept Holds w table memory
       → Inserts Holds w added memory (length (vrps w table)) (nodes_in w (vrps w table)) a memory' → (r : Refusal) → a ≡ refused r → Kept Holds w table memory'
 
--- The answers that the enums of the code stand for.
-unfoldable pub told_indexed : Indexed → Answer ℕ
-told_indexed (Nodes n) = done n
-told_indexed (NotIndexed r) = refused r
-
-unfoldable pub told_looked_up : LookedUp → Answer Finding
-told_looked_up (Found state visited) = done (record { state = state; visited = visited })
-told_looked_up (NotLookedUp r) = refused r
+-- The answer that the look-up's result stands for.
+unfoldable pub told_looked_up : Result LookedUp Refusal → Answer Finding
+told_looked_up (Ok found) = done (record { state = found.state; visited = found.visited })
+told_looked_up (Err r) = refused r
 
 -- What is told beside its number: the state, and how many nodes were visited, 0 on a refusal.
 unfoldable pub state_told : Answer Finding → Answer ℕ

@@ -1,6 +1,6 @@
 -- 02, Q-12, "Check the other make": "Given what our sending is handed (session, source, state, block …) and the block it sent, say whether that
 -- is allowed".
-use Rattle.std.specs.Prelude.{◌≡◌, ℕ, ◌-◌, ◌≤◌, Bool, true, cond, ◌&&◌, List, [], ◌∷◌, ◌++◌, leb, eqb, length, take}
+use Rattle.std.specs.Prelude.{◌≡◌, ℕ, ◌-◌, ◌≤◌, Bool, true, cond, ◌&&◌, List, [], ◌∷◌, ◌++◌, leb, eqb, length, take, Result, Ok, Err}
 use Rattle.rules.specs.Bytes.{every, exists, same_bytes}
 use Rattle.rules.specs.Rows.{chop, whole}
 use Rattle.rules.specs.Answers.{Answer, done, refused, number, answer, order, ◌when◌, refusals}
@@ -9,9 +9,8 @@ use Rattle.rules.specs.Attributes.{Attribute, attributes, attribute_size, encode
 use Rattle.rules.specs.Changes.{too_long}
 use Rattle.rules.specs.Receipt.{receipt_verdict}
 use Rattle.rules.specs.Sending.{sending_result, send_size, Sent}
+use Rattle.rules.specs.declared.Refusal.{Refusal}
 use Rattle.rules.specs.declared.Refusal.TheVariants.{BadLength}
-use Rattle.rules.specs.declared.SentCheck.{SentCheck}
-use Rattle.rules.specs.declared.SentCheck.TheVariants.{Allowed, NotAllowed, Refused as NotChecked}
 use Rattle.rules.specs.declared.Session.{Session}
 
 -- Flags, "the long-length bit apart": 0x10, the Extended Length bit of RFC 4271 section 4.3.
@@ -48,11 +47,10 @@ allowed s source state b sent =
     (BadLength when too_long sent ∷ refusals (send_size s source state b))
     (cond (readable sent && same_attributes (sending_result s source state (attributes b)) (attributes sent)) yes no))
 
--- The answer that the enum of the code stands for.
-unfoldable pub told_sent_check : SentCheck → Answer ℕ
-told_sent_check Allowed = done yes
-told_sent_check NotAllowed = done no
-told_sent_check (NotChecked r) = refused r
+-- The answer that the code's result stands for.
+unfoldable pub told_sent_check : Result Bool Refusal → Answer ℕ
+told_sent_check (Ok allows) = done (cond allows yes no)
+told_sent_check (Err r) = refused r
 
 -- ---- What is proved of it
 

@@ -1,2 +1,2 @@
--- What the numbers that the code hands on stand for.
+-- What the code hands on of a new tag and of a new OTC.
 pub mod Told

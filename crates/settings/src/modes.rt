@@ -1,4 +1,4 @@
-// Modes (01, "Modes"; source 002). No test names mode 1, simple tagging: every mode tags, and 2 and 3 do more.
+// Modes (01, "Modes"; source 002), as numbers like roles (decision 116). No test names mode 1, simple tagging: every mode tags, and 2 and 3 do more.
 ghost use Rattle.std.specs.Prelude.{◌≡◌};
 ghost use Rattle.rules.specs.Settings.{mode_meant};
 

@@ -1,4 +1,5 @@
-// Roles (RFC 9234 section 4.1, table 1) and their counterparts (section 4.2, table 2).
+// Roles (RFC 9234 section 4.1, table 1) and their counterparts (section 4.2, table 2). Numbers and no enum: a session may be handed in with any
+// byte, and `Roles.counterpart` and `Settings.session_ok` speak of all of them (decision 116).
 ghost use Rattle.std.specs.Prelude.{◌≡◌};
 ghost use Rattle.rules.specs.Roles.{counterpart};
 

@@ -1,4 +1,4 @@
-// Origin validation states (01, "Origin state"; source 000).
+// Origin validation states (01, "Origin state"; source 000), as numbers like roles (decision 116).
 pub const VALID: u8 = 0;
 
 pub const NOT_FOUND: u8 = 1;

@@ -1,12 +1,12 @@
--- Bytes and their hex digits: what a line spells from a position on, pair by pair, and the digits of bytes from a position on.
+-- Bytes and their hex digits: what a line spells, pair by pair, and the digits of bytes from a position on.
 use Prim.Native.Nat.{ℕ, suc, ◌+◌, ◌*◌, ◌/◌, ◌%◌, ◌≤◌, ◌<◌}
 use mathlib.Core.Path.{◌≡◌, refl, sym, ap, ◌∙◌}
 use mathlib.Core.Bool.{Bool, true, false, false≢true, cond, ◌&&◌}
 use mathlib.Core.List.{List, [], ◌∷◌, ◌++◌, flat_map}
-use native.Mathlib.Numerals.{add-one, add-two}
+use native.Mathlib.Numerals.{add-one}
 use native.Mathlib.Omega.{arith}
 use borrow.Author.Tests.{lt-ltb, le-ltb, le-leb, lt-leb, eq-eqb, ne_eqb}
-use lib.ListN.{length, drop, get_or, set, drop_of_length-le}
+use lib.ListN.{length, length-append, drop, get_or, set, drop_of_length-le}
 use lib.Seq.{drop-cons, sets-eq, take_at}
 use Rattle.rules.specs.Bytes.{every, over}
 use Rattle.rules.specs.Text.{digits_max, digit, is_digit, from_hex, readable_line, upper_digit, to_hex}
@@ -48,80 +48,79 @@ spelled-fits (d ∷ e ∷ s) = go (is_digit d && is_digit e) (spelled-fits s)
     go true ih = omega (arith, ih)
     go false ih = omega arith
 
-module _ (s : List ℕ) (at : ℕ) where
-  -- The pair at a position.
-  pair_at : at + 1 < length s → drop at s ≡ get_or s at 0 ∷ get_or s (at + 1) 0 ∷ drop (at + 2) s
-  pair_at h =
-      let h' : suc at < length s = omega (arith, h) in
-      drop-cons s at 0 (omega (arith, h))
-      ∙ rw (add-one at, add-two at) (ap (λ (l : List ℕ). get_or s at 0 ∷ l) (drop-cons s (suc at) 0 h'))
+two_digits : (p : List ℕ) → length p ≡ 2 → p ≡ get_or p 0 0 ∷ get_or p 1 0 ∷ []
+two_digits [] h = absurd (omega (arith, h))
+two_digits (d ∷ []) h = absurd (omega (arith, h))
+two_digits (d ∷ e ∷ []) h = refl
+two_digits (d ∷ e ∷ f ∷ s) h = absurd (omega (arith, h))
 
-  module _ (h : at + 1 < length s) where
-    -- A pair of digits, and the pairs after it.
-    pair_next : digit (get_or s at 0) ≤ 15 → digit (get_or s (at + 1) 0) ≤ 15
-        → (spelled (drop at s) ≡ (16 * digit (get_or s at 0) + digit (get_or s (at + 1) 0)) ∷ spelled (drop (at + 2) s))
-        × (every is_digit (drop at s) ≡ every is_digit (drop (at + 2) s))
-    unfolding spelled every is_digit
-    pair_next g k =
-        let e : digit (get_or s at 0) * 16 + digit (get_or s (at + 1) 0) ≡ 16 * digit (get_or s at 0) + digit (get_or s (at + 1) 0) = omega arith in
-        rw (pair_at h, lt-ltb (digit (get_or s at 0)) 16 (omega (arith, g)), lt-ltb (digit (get_or s (at + 1) 0)) 16 (omega (arith, k)), e) (refl, refl)
+-- What is left, where it begins with a pair.
+module _ {rest : List ℕ} (pair after : List ℕ) (r : rest ≡ pair ++ after) (two : length pair ≡ 2) where
+  pair_at : rest ≡ get_or pair 0 0 ∷ get_or pair 1 0 ∷ after
+  pair_at = r ∙ ap (λ (p : List ℕ). p ++ after) (two_digits pair two)
 
-    -- A pair that is not of digits ends what is spelled.
-    pub pair_high : 15 < digit (get_or s at 0) → (spelled (drop at s) ≡ []) × (every is_digit (drop at s) ≡ false)
-    unfolding spelled every is_digit
-    pair_high g = rw (pair_at h, le-ltb (digit (get_or s at 0)) 16 (omega (arith, g))) (refl, refl)
+  -- A pair of digits, and the pairs after it.
+  pair_next : digit (get_or pair 0 0) ≤ 15 → digit (get_or pair 1 0) ≤ 15
+      → (spelled rest ≡ (16 * digit (get_or pair 0 0) + digit (get_or pair 1 0)) ∷ spelled after)
+      × (every is_digit rest ≡ every is_digit after)
+  unfolding spelled every is_digit
+  pair_next g k =
+      let e : digit (get_or pair 0 0) * 16 + digit (get_or pair 1 0) ≡ 16 * digit (get_or pair 0 0) + digit (get_or pair 1 0) = omega arith in
+      rw (pair_at, lt-ltb (digit (get_or pair 0 0)) 16 (omega (arith, g)), lt-ltb (digit (get_or pair 1 0)) 16 (omega (arith, k)), e) (refl, refl)
 
-    pub pair_low : digit (get_or s at 0) ≤ 15 → 15 < digit (get_or s (at + 1) 0) → (spelled (drop at s) ≡ []) × (every is_digit (drop at s) ≡ false)
-    unfolding spelled every is_digit
-    pair_low g k =
-        rw (pair_at h, lt-ltb (digit (get_or s at 0)) 16 (omega (arith, g)), le-ltb (digit (get_or s (at + 1) 0)) 16 (omega (arith, k))) (refl, refl)
+  -- A pair that is not of digits ends what is spelled.
+  pub pair_high : 15 < digit (get_or pair 0 0) → (spelled rest ≡ []) × (every is_digit rest ≡ false)
+  unfolding spelled every is_digit
+  pair_high g = rw (pair_at, le-ltb (digit (get_or pair 0 0)) 16 (omega (arith, g))) (refl, refl)
 
-  -- No pair is left.
-  pub pair_none : length s ≤ at → (spelled (drop at s) ≡ []) × (every is_digit (drop at s) ≡ true)
+  pub pair_low : digit (get_or pair 0 0) ≤ 15 → 15 < digit (get_or pair 1 0) → (spelled rest ≡ []) × (every is_digit rest ≡ false)
+  unfolding spelled every is_digit
+  pair_low g k =
+      rw (pair_at, lt-ltb (digit (get_or pair 0 0)) 16 (omega (arith, g)), le-ltb (digit (get_or pair 1 0)) 16 (omega (arith, k))) (refl, refl)
+
+-- ---- Decoding: n bytes of raw are stored, and the line is read up to `rest`.
+
+pub record Decoding (s b raw rest : List ℕ) (n : ℕ) : Type 0 where
+  pub twice : 2 * n + length rest ≡ length s
+  pub wrote : Writing b 0 (spelled s) raw n (spelled rest)
+  pub told : every is_digit rest ≡ every is_digit s
+
+pub decoding_start : (s b : List ℕ) → length s ≤ 2 * length b → Decoding s b b s 0
+decoding_start s b h = record { twice = omega arith; wrote = writing_start b 0 (spelled s) (omega (arith, spelled-fits s, h)); told = refl }
+
+module _ {s b raw rest : List ℕ} {n : ℕ} (D : Decoding s b raw rest n) where
+  -- No pair is left of an even number of digits.
+  pub pair_none : length s % 2 ≡ 0 → length rest < 2 → (spelled rest ≡ []) × (every is_digit rest ≡ true)
   unfolding spelled every
-  pair_none h = rw (drop_of_length-le s h) (refl, refl)
+  pair_none e h = go rest (omega (arith, D.twice, e, h))
+    where
+      go : (l : List ℕ) → length l ≡ 0 → (spelled l ≡ []) × (every is_digit l ≡ true)
+      go [] z = (refl, refl)
+      go (d ∷ l) z = absurd (omega (arith, z))
 
--- ---- Decoding: n bytes of raw are stored, and the line is read up to `at`.
+  module _ (pair after : List ℕ) (r : rest ≡ pair ++ after) (two : length pair ≡ 2) where
+    pub decoding_room : length s ≤ 2 * length b → n < length raw
+    decoding_room f = omega (arith, D.twice, writing-length D.wrote, f, two, ap length r, length-append pair after)
 
-pub record Decoding (s b raw : List ℕ) (at n : ℕ) : Type 0 where
-  pub twice : at ≡ 2 * n
-  pub within : at ≤ length s
-  pub wrote : Writing b 0 (spelled s) raw n (spelled (drop at s))
-  pub told : every is_digit (drop at s) ≡ every is_digit s
-
-pub decoding_start : (s b : List ℕ) → length s ≤ 2 * length b → Decoding s b b 0 0
-decoding_start s b h =
-    record { twice = refl; within = omega arith; wrote = writing_start b 0 (spelled s) (omega (arith, spelled-fits s, h)); told = refl }
-
-module _ {s b raw : List ℕ} {at n : ℕ} where
-  -- There is a pair left where a digit is.
-  pub decoding_pair : Decoding s b raw at n → length s % 2 ≡ 0 → at < length s → at + 1 < length s
-  decoding_pair D e h = omega (arith, D.twice, e, h)
-
-  pub decoding_room : Decoding s b raw at n → length s ≤ 2 * length b → at + 1 < length s → n < length raw
-  decoding_room D f h = omega (arith, D.twice, writing-length D.wrote, f, h)
-
-  pub decoding_step : {high low : ℕ} → Decoding s b raw at n → n < length raw → at + 1 < length s → high ≡ digit (get_or s at 0)
-      → low ≡ digit (get_or s (at + 1) 0) → high ≤ 15 → low ≤ 15 → Decoding s b (set raw n (16 * high + low)) (at + 2) (n + 1)
-  unfolding splice
-  decoding_step {high} {low} D r h eh el g k =
-      let gh : digit (get_or s at 0) ≤ 15 = omega (arith, eh, g) in
-      let gl : digit (get_or s (at + 1) 0) ≤ 15 = omega (arith, el, k) in
-      let p = pair_next s at h gh gl in
-      let W = writing-rest D.wrote p.0 in
-      let one : Stored raw n ((16 * high + low) ∷ []) (n + 1) (set raw n (16 * high + low)) =
-      record { next = refl; is = sets-eq ((16 * high + low) ∷ []) raw n (omega (arith, r)) } in
-      record {
-        twice = omega (arith, D.twice);
-        within = omega (arith, h);
-        wrote = writing_step {xs = (16 * high + low) ∷ []} (rw (eh, el) W) one;
-        told = sym p.1 ∙ D.told;
-      }
+    pub decoding_step : {high low : ℕ} → n < length raw → high ≡ digit (get_or pair 0 0) → low ≡ digit (get_or pair 1 0) → high ≤ 15 → low ≤ 15
+        → Decoding s b (set raw n (16 * high + low)) after (n + 1)
+    unfolding splice
+    decoding_step {high} {low} h eh el g k =
+        let gh : digit (get_or pair 0 0) ≤ 15 = omega (arith, eh, g) in
+        let gl : digit (get_or pair 1 0) ≤ 15 = omega (arith, el, k) in
+        let p = pair_next pair after r two gh gl in
+        let W = writing-rest D.wrote p.0 in
+        let one : Stored raw n ((16 * high + low) ∷ []) (n + 1) (set raw n (16 * high + low)) =
+        record { next = refl; is = sets-eq ((16 * high + low) ∷ []) raw n (omega (arith, h)) } in
+        record {
+          twice = omega (arith, D.twice, two, ap length r, length-append pair after);
+          wrote = writing_step {xs = (16 * high + low) ∷ []} (rw (eh, el) W) one;
+          told = sym p.1 ∙ D.told;
+        }
 
   -- Nothing more is spelled: what is stored is all, and whether the rest is of digits tells whether the line is.
-  pub decoding_end : {x : Bool} → Decoding s b raw at n → (spelled (drop at s) ≡ []) × (every is_digit (drop at s) ≡ x)
-      → (x ≡ every is_digit s) × (raw ≡ over (spelled s) b)
-  decoding_end D e = (sym e.1 ∙ D.told, (writing-end (writing-rest D.wrote e.0)).is ∙ splice-zero b (spelled s))
+  pub decoding_end : {x : Bool} → (spelled rest ≡ []) × (every is_digit rest ≡ x) → (x ≡ every is_digit s) × (raw ≡ over (spelled s) b)
+  decoding_end e = (sym e.1 ∙ D.told, (writing-end (writing-rest D.wrote e.0)).is ∙ splice-zero b (spelled s))
 
 -- ---- A line read
 

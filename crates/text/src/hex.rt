@@ -10,7 +10,7 @@ use octets::buffer::put_byte;
 // A readable line has at most so many digits.
 pub const DIGITS_MAX: usize = 8192;
 
-// The value of a hex digit of either case, 16 for any other byte.
+// The value of a hex digit of either case, 16 for any other byte, as `Text.digit` has it.
 fn digit_of(b: u8) -> u8
     ensures { (result ≡ digit b) × (result ≤ 16) }
 {
@@ -27,11 +27,9 @@ pub fn decode(line: &[u8], raw: &mut [u8]) -> bool
     requires { (length line.now % 2 ≡ 0) × (length line.now ≤ 2 * length raw.old) }
     ensures { (result ≡ every is_digit line.now) × (raw.new ≡ over (spelled line.now) raw.old) }
 {
-    let mut at = 0;
-    let mut n = 0;
-    while at < line.len() {
-        let high = digit_of(line[at]);
-        let low = digit_of(line[at + 1]);
+    for (n, pair) in line.chunks_exact(2).enumerate() {
+        let high = digit_of(pair[0]);
+        let low = digit_of(pair[1]);
         if 15 < high {
             return false;
         }
@@ -39,8 +37,6 @@ pub fn decode(line: &[u8], raw: &mut [u8]) -> bool
             return false;
         }
         raw[n] = 16 * high + low;
-        n += 1;
-        at += 2;
     }
     true
 }
@@ -75,13 +71,10 @@ pub fn put_hex(src: &[u8], out: &mut [u8], at: usize) -> usize
     requires { at + 2 * length src.now ≤ length out.old }
     ensures { Stored out.old at (to_hex src.now) result out.new }
 {
-    let mut i = 0;
     let mut w = at;
-    while i < src.len() {
-        let b = src[i];
+    for b in src {
         w = put_byte(upper_digit(b / 16), out, w);
         w = put_byte(upper_digit(b % 16), out, w);
-        i += 1;
     }
     w
 }

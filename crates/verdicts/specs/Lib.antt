@@ -1,2 +1,2 @@
--- What the rules of receipt and sending come to as a number.
+-- What the rules of receipt and sending come to: the number of one, or none.
 pub mod Judge

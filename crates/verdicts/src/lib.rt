@@ -1,11 +1,11 @@
 // The rules of receipt and sending, and what they drop and add (01, "Receipt" and "Sending"; 02, Q-2 and Q-11; RFC 9234 section 5). All
-// of it is internal: receipt and sending call it.
+// of it is internal: receipt and sending call it. Rules are told by document 01's numbers, which stand beside answers 1 and 2 (decision 116).
 #![tactic(auto)]
 
-ghost use Rattle.std.specs.Prelude.{◌≡◌, true, not, cond, ◌&&◌, [], ◌∷◌, ◌≤◌, eqb};
+ghost use Rattle.std.specs.Prelude.{◌≡◌, not, cond, ◌&&◌, [], ◌∷◌, ◌≤◌, eqb};
 ghost use Rattle.std.proofs.Math.Option.{none, some};
 ghost use Rattle.rules.specs.Bytes.{one_of};
-ghost use Rattle.rules.specs.Settings.{session_ok, mode_meant, drop_invalid, invalid};
+ghost use Rattle.rules.specs.Settings.{mode_meant, drop_invalid, invalid};
 ghost use Rattle.rules.specs.Roles.{provider, rs, rs_client, customer, peer};
 ghost use Rattle.rules.specs.Changes.{new_flags};
 ghost use Rattle.rules.specs.Receipt.{otc_received, dropped_received};
@@ -14,7 +14,7 @@ ghost use Rattle.settings.specs.Told.{told_tag, told_otc};
 ghost use Rattle.communities.specs.Tags.{drop_test};
 ghost use Rattle.verdicts.specs.Judge.{ReceiptRule, SendingRule};
 
-use communities::tags::{ALL_TAGS, ERRONEOUS_TAGS};
+use communities::tags::Dropping;
 use rules::Session;
 use settings::flags::{both, one_of_three, one_of_two};
 use settings::modes::{DROP_INVALID, mode_meant};
@@ -34,49 +34,40 @@ fn is_up(role: u8) -> bool
     one_of_three(role, PROVIDER, PEER, RS)
 }
 
-// The rule by which a received route is ineligible, or 0 (01, Receipt, rules 1 and 2; RFC 9234 section 5, ingress).
-pub fn receipt_rule(session: Session, has: bool, otc: u32) -> u8
-    ensures { ReceiptRule session has otc result }
+// The rule by which a received route is ineligible, by the AS that its OTC names where it has one (01, Receipt, rules 1 and 2; RFC 9234
+// section 5, ingress). Where no rule applies the route is eligible.
+pub fn receipt_rule(session: Session, otc: Option<u32>) -> Option<u8>
+    ensures { ReceiptRule session otc result }
 {
     let role = session.local_role;
     let remote = session.remote_as;
     let from = remote_role(role);
-    let first = both(has, one_of_two(from, CUSTOMER, RS_CLIENT));
-    let second = both(both(has, from == PEER), otc != remote);
-    if first {
-        return 1;
+    let otc = otc?;
+    if one_of_two(from, CUSTOMER, RS_CLIENT) {
+        return Some(1);
     }
-    if second {
-        return 2;
+    if from == PEER && otc != remote {
+        return Some(2);
     }
-    0
+    None
 }
 
-// The test of which communities receipt drops, by its number: every tag, or with both ends under one administration those above 2 (02, Q-11).
-pub fn received_test(session: Session) -> u8
+// Which communities receipt drops: every tag, or with both ends under one administration those above 2 (02, Q-11).
+pub fn received_test(session: Session) -> Dropping
     ensures { drop_test result ≡ dropped_received session }
 {
     if one_administration(session) {
-        return ERRONEOUS_TAGS;
+        return Dropping::ErroneousTags;
     }
-    ALL_TAGS
+    Dropping::AllTags
 }
 
-// The AS that a new OTC names where one is wanted: 0 for none. Internal: no AS is 0.
-fn otc_if(wanted: bool, asn: u32) -> u32
-    requires { 1 ≤ asn }
-    ensures { told_otc result ≡ cond wanted (some asn) none }
-{
-    if wanted { asn } else { 0 }
-}
-
-// The AS that a new OTC names on receipt: 0 for none (01, Receipt). Internal: the session is valid.
-pub fn received_otc(session: Session) -> u32
-    requires { session_ok session ≡ true }
+// The AS that a new OTC names on receipt, or none (01, Receipt).
+pub fn received_otc(session: Session) -> Option<u32>
     ensures { told_otc result ≡ otc_received session }
 {
     let from = remote_role(session.local_role);
-    otc_if(is_up(from), session.remote_as)
+    is_up(from).then_some(session.remote_as)
 }
 
 // A source that is neither an own route nor a Customer (01, Sending, rule 2).
@@ -90,32 +81,27 @@ fn from_above(source: u8) -> bool
 fn dropped(mode: u8, state: u8, to: u8) -> bool
     ensures { result ≡ (eqb (mode_meant mode) drop_invalid && eqb state invalid && eqb to rs_client) }
 {
-    both(
-        both(mode_meant(mode) == DROP_INVALID, state == INVALID),
-        to == RS_CLIENT,
-    )
+    mode_meant(mode) == DROP_INVALID && state == INVALID && to == RS_CLIENT
 }
 
-// The rule by which a route is withheld, or 0 (01, Sending, rules 1 to 3; RFC 9234 section 5, egress).
-pub fn sending_rule(session: Session, source: u8, state: u8, has: bool) -> u8
+// The rule by which a route is withheld, by whether it has an OTC (01, Sending, rules 1 to 3; RFC 9234 section 5, egress). Where no rule
+// applies it goes out.
+pub fn sending_rule(session: Session, source: u8, state: u8, has: bool) -> Option<u8>
     ensures { SendingRule session source state has result }
 {
     let to = remote_role(session.local_role);
     let up = is_up(to);
     let above = from_above(source);
-    let first = both(has, up);
-    let second = both(above, up);
-    let third = dropped(session.mode, state, to);
-    if first {
-        return 1;
+    if both(has, up) {
+        return Some(1);
     }
-    if second {
-        return 2;
+    if both(above, up) {
+        return Some(2);
     }
-    if third {
-        return 3;
+    if dropped(session.mode, state, to) {
+        return Some(3);
     }
-    0
+    None
 }
 
 // The flags of new attributes, by whether the route is the sender's own (02, Q-2; RFC 4271 section 5).
@@ -129,7 +115,7 @@ pub fn new_flags(own: bool) -> u8
 }
 
 // The state that sending tags a route with, towards an RS-Client, or with both ends under one administration towards any role: 3 for no tag
-// (01, Sending; 02, Q-11).
+// (01, Sending; 02, Q-11), which is a state of the definitions, and no option.
 pub fn sent_tag(session: Session, source: u8, state: u8) -> u8
     ensures { told_tag result ≡ tag_sent session source state }
 {
@@ -143,12 +129,11 @@ pub fn sent_tag(session: Session, source: u8, state: u8) -> u8
     }
 }
 
-// The AS that a new OTC names on sending: 0 for none (01, Sending). Internal: the session is valid.
-pub fn sent_otc(session: Session, source: u8, state: u8) -> u32
-    requires { session_ok session ≡ true }
+// The AS that a new OTC names on sending, or none (01, Sending).
+pub fn sent_otc(session: Session, source: u8, state: u8) -> Option<u32>
     ensures { told_otc result ≡ otc_sent session source state }
 {
     let to = remote_role(session.local_role);
     let marked = one_of_three(to, CUSTOMER, PEER, RS_CLIENT);
-    otc_if(marked, session.local_as)
+    marked.then_some(session.local_as)
 }

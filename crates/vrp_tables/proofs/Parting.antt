@@ -1,23 +1,20 @@
 -- A table scanned in parts: the state of what has been passed, by the law of the state over parts. Over any width.
-use Prim.Native.Nat.{ℕ, ◌+◌, ◌-◌, ◌%◌, ◌≤◌, ◌<◌, min}
+use Prim.Native.Nat.{ℕ, ◌+◌, ◌*◌, ◌%◌, ◌<◌, min}
 use mathlib.Core.Path.{◌≡◌, refl, sym, ap, ◌∙◌}
 use mathlib.Core.Logic.{◌⊎◌, inl, inr}
 use mathlib.Core.Bool.{Bool, true, false, cond, or-true}
-use mathlib.Core.List.{List, [], ◌∷◌, ◌++◌, flatten, append-nil}
+use mathlib.Core.List.{List, [], ◌∷◌, ◌++◌, flatten, append-nil, append_assoc}
 use mathlib.Core.Option.{Option}
-use native.Mathlib.Nat.{zero-mod, add-mod}
+use native.Mathlib.Nat.{zero-mod, add-mod, mul-mod_left}
 use native.Mathlib.Omega.{arith}
-use borrow.Author.Tests.{leb-true, leb-false}
-use lib.Dec.{leb}
-use lib.ListN.{length, take, drop, length-drop}
-use lib.Seq.{length-take-le, take_all, take-add}
+use lib.ListN.{length, length-append}
 use Rattle.rules.specs.Bytes.{exists, one_of}
 use Rattle.rules.specs.Settings.{valid, not_found, invalid}
 use Rattle.rules.specs.Origin.{Vrp, vrp_size, vrps, bad_vrp, covers, matches, state_in, state_over}
 use Rattle.rules.proofs.Lists.{neither, exists-append}
 use Rattle.rules.proofs.States.{state_over_lem}
 use Rattle.vrp_tables.specs.Scan.{GoodTable}
-use Rattle.vrp_tables.proofs.Scans.{vrps-none, vrps-append, vrps-split}
+use Rattle.vrp_tables.proofs.Scans.{size_pos, vrps-none, vrps-short, vrps-append}
 
 module _ (w prefix len : ℕ) (origin : Option ℕ) where
   abbrev found : List Vrp → ℕ
@@ -62,81 +59,73 @@ module _ (w prefix len : ℕ) (origin : Option ℕ) where
         go (inr f) (inl e) = rw (f, e) refl
         go x (inr e) = absurd (n e)
 
--- What is taken up to the end of a list, or up to a position in it.
-take_min : (m : ℕ) (s : List ℕ) → take (min (length s) m) s ≡ take m s
-take_min m s = go (leb m (length s)) refl
-  where
-    go : (x : Bool) → leb m (length s) ≡ x → take (min (length s) m) s ≡ take m s
-    go true e = let q : min (length s) m ≡ m = omega (arith, leb-true m (length s) e) in ap (λ (n : ℕ). take n s) q
-    go false e = take_all (min (length s) m) s (omega (arith, leb-false m (length s) e)) ∙ sym (take_all m s (omega (arith, leb-false m (length s) e)))
+-- A full part is of whole records.
+pub part_size : (w : ℕ) {n : ℕ} → n ≡ 1024 * vrp_size w → n % vrp_size w ≡ 0
+part_size w e = rw e (mul-mod_left 1024 (vrp_size w))
 
--- A scan over parts of so many bytes that has come to a position: the state of the records before it is what was found, and not valid.
-pub record Parted (w : ℕ) (table : List ℕ) (prefix len : ℕ) (origin : Option ℕ) (state at : ℕ) : Type 0 where
-  pub within : at ≤ length table
-  pub even : at < length table → at % vrp_size w ≡ 0
-  pub is : state ≡ state_in w (vrps w (take at table)) prefix len origin
+-- A table of which some bytes are left to scan, part by part: the state of the records before them is what was found, and not valid.
+pub record Parted (w : ℕ) (table : List ℕ) (prefix len : ℕ) (origin : Option ℕ) (state : ℕ) (rest : List ℕ) : Type 0 where
+  pub before : List ℕ
+  pub whole : table ≡ before ++ rest
+  pub even : 0 < length rest → length before % vrp_size w ≡ 0
+  pub is : state ≡ state_in w (vrps w before) prefix len origin
   pub other : state ≡ valid → ⊥
 
-module _ {w : ℕ} {table : List ℕ} {prefix len : ℕ} {origin : Option ℕ} where
-  pub parted_start : Parted w table prefix len origin not_found 0
-  unfolding state_in exists
-  parted_start = record { within = omega arith; even = λ h. zero-mod (vrp_size w); is = rw (vrps-none w) refl; other = λ e. absurd (omega (arith, e)) }
+-- Bytes that are followed by others only where they are whole records.
+vrps-parts : (w : ℕ) (x rest : List ℕ) → (0 < length rest → length x % vrp_size w ≡ 0) → vrps w (x ++ rest) ≡ vrps w x ++ vrps w rest
+vrps-parts w x [] h = rw (append-nil x, vrps-none w, append-nil (vrps w x)) refl
+vrps-parts w x (b ∷ rest) h = vrps-append w x (b ∷ rest) (h (omega arith))
 
-  module _ {state at : ℕ} (p : Parted w table prefix len origin state at) where
+module _ {w : ℕ} {table : List ℕ} {prefix len : ℕ} {origin : Option ℕ} where
+  pub parted_start : {rest : List ℕ} → rest ≡ table → Parted w table prefix len origin not_found rest
+  unfolding state_in exists
+  parted_start e =
+      record { before = []; whole = sym e; even = λ h. zero-mod (vrp_size w); is = rw (vrps-none w) refl; other = λ e. absurd (omega (arith, e)) }
+
+  module _ {state : ℕ} {s : List ℕ} (p : Parted w table prefix len origin state s) where
     -- No record is left.
-    pub parted_end : length table ≤ at → state ≡ state_in w (vrps w table) prefix len origin
-    parted_end h = p.is ∙ ap (λ (t : List ℕ). state_in w (vrps w t) prefix len origin) (take_all at table h)
+    pub parted_end : length s ≡ 0 → state ≡ state_in w (vrps w table) prefix len origin
+    parted_end h = p.is ∙ ap (λ (l : List Vrp). state_in w l prefix len origin) (sym (ap (vrps w) p.whole ∙ none))
+      where
+        none : vrps w (p.before ++ s) ≡ vrps w p.before
+        none = vrps-parts w p.before s (λ n. absurd (omega arith)) ∙ rw (vrps-short w s (omega (arith, size_pos w))) (append-nil (vrps w p.before))
 
     -- A part is left, of `full` bytes or up to the end of the table.
-    module _ (h : at < length table) (full : ℕ) (z : full % vrp_size w ≡ 0) {end : ℕ} (e : end ≡ min (length table) (at + full)) where
-      abbrev here : List ℕ
-      here = take (end - at) (drop at table)
+    module _ (full : ℕ) (z : full % vrp_size w ≡ 0) (x rest : List ℕ) (e : s ≡ x ++ rest) (h : length x ≡ min full (length s)) (some : 0 < length s) where
+      sizes : length s ≡ length x + length rest
+      sizes = ap length e ∙ length-append x rest
 
-      here-full : here ≡ take full (drop at table)
-      here-full =
-          let q : end - at ≡ min (length (drop at table)) full = omega (arith, e, length-drop at table) in
-          ap (λ (n : ℕ). take n (drop at table)) q ∙ take_min full (drop at table)
+      even-part : 0 < length rest → length x % vrp_size w ≡ 0
+      even-part l = let q : length x ≡ full = omega (arith, sizes) in rw q z
 
-      passed : vrps w (take end table) ≡ vrps w (take at table) ++ vrps w here
-      passed =
-          let q : end ≡ at + (end - at) = omega (arith, e) in
-          let n : length (take at table) ≡ at = length-take-le at table p.within in
-          ap (λ (n : ℕ). vrps w (take n table)) q ∙ ap (vrps w) (take-add at (end - at) table)
-          ∙ vrps-append w (take at table) here (ap (λ (n : ℕ). n % vrp_size w) n ∙ p.even h)
-
-      all : vrps w table ≡ vrps w (take at table) ++ (vrps w here ++ vrps w (drop full (drop at table)))
+      all : vrps w table ≡ vrps w p.before ++ (vrps w x ++ vrps w rest)
       all =
-          vrps-split w table at (p.even h)
-          ∙ ap (λ (l : List Vrp). vrps w (take at table) ++ l)
-          (vrps-split w (drop at table) full z ∙ ap (λ (t : List ℕ). vrps w t ++ vrps w (drop full (drop at table))) (sym here-full))
+          ap (vrps w) p.whole ∙ vrps-append w p.before s (p.even some)
+          ∙ ap (λ (l : List Vrp). vrps w p.before ++ l) (ap (vrps w) e ∙ vrps-parts w x rest even-part)
 
-      pub parted_good : GoodTable w table → GoodTable w here
+      pub parted_good : GoodTable w table → GoodTable w x
       parted_good g =
-          let a = neither (exists (bad_vrp w) (vrps w (take at table))) _ (sym (exists-append (bad_vrp w) (vrps w (take at table)) _) ∙ sym (ap (exists (bad_vrp w)) all) ∙ g) in
-          (neither (exists (bad_vrp w) (vrps w here)) _ (sym (exists-append (bad_vrp w) (vrps w here) _) ∙ a.1)).0
+          let a = neither (exists (bad_vrp w) (vrps w p.before)) _ (sym (exists-append (bad_vrp w) (vrps w p.before) _) ∙ sym (ap (exists (bad_vrp w)) all) ∙ g) in
+          (neither (exists (bad_vrp w) (vrps w x)) _ (sym (exists-append (bad_vrp w) (vrps w x) _) ∙ a.1)).0
 
-      module _ {s : ℕ} (q : s ≡ state_in w (vrps w here) prefix len origin) where
-        pub parted_valid : s ≡ valid → valid ≡ state_in w (vrps w table) prefix len origin
+      module _ {found : ℕ} (q : found ≡ state_in w (vrps w x) prefix len origin) where
+        pub parted_valid : found ≡ valid → valid ≡ state_in w (vrps w table) prefix len origin
         parted_valid v =
-            more-valid w prefix len origin (vrps w (take at table)) (vrps w here) _ (sym q ∙ v) ∙ sym (ap (λ (l : List Vrp). state_in w l prefix len origin) all)
+            more-valid w prefix len origin (vrps w p.before) (vrps w x) _ (sym q ∙ v) ∙ sym (ap (λ (l : List Vrp). state_in w l prefix len origin) all)
 
-        module _ (n : s ≡ valid → ⊥) where
-          even-end : end < length table → end % vrp_size w ≡ 0
-          even-end l =
-              let q : end ≡ at + full = omega (arith, e) in
-              ap (λ (i : ℕ). i % vrp_size w) q ∙ add-mod at full (vrp_size w) ∙ rw (p.even h, z) (zero-mod (vrp_size w))
-
-          step : {more : ℕ} → more ≡ state_in w (vrps w (take at table) ++ vrps w here) prefix len origin → (more ≡ valid → ⊥) → Parted w table prefix len origin more end
+        module _ (n : found ≡ valid → ⊥) where
+          step : {more : ℕ} → more ≡ state_in w (vrps w p.before ++ vrps w x) prefix len origin → (more ≡ valid → ⊥) → Parted w table prefix len origin more rest
           step f o =
               record {
-                within = omega (arith, e);
-                even = even-end;
-                is = f ∙ sym (ap (λ (l : List Vrp). state_in w l prefix len origin) passed);
+                before = p.before ++ x;
+                whole = p.whole ∙ ap (λ (l : List ℕ). p.before ++ l) e ∙ sym (append_assoc p.before x rest);
+                even = λ l. rw (length-append p.before x, add-mod (length p.before) (length x) (vrp_size w), p.even some, even-part l) (zero-mod (vrp_size w));
+                is = f ∙ sym (ap (λ (l : List Vrp). state_in w l prefix len origin) (vrps-append w p.before x (p.even some)));
                 other = o;
               }
 
-          pub parted_found : s ≡ not_found → Parted w table prefix len origin state end
-          parted_found f = step (p.is ∙ more-found w prefix len origin (vrps w (take at table)) (vrps w here) (λ v. p.other (p.is ∙ v)) (λ v. n (q ∙ v)) (sym q ∙ f)) p.other
+          pub parted_found : found ≡ not_found → Parted w table prefix len origin state rest
+          parted_found f = step (p.is ∙ more-found w prefix len origin (vrps w p.before) (vrps w x) (λ v. p.other (p.is ∙ v)) (λ v. n (q ∙ v)) (sym q ∙ f)) p.other
 
-          pub parted_other : (s ≡ not_found → ⊥) → Parted w table prefix len origin s end
-          parted_other f = step (q ∙ more-other w prefix len origin (vrps w (take at table)) (vrps w here) (λ v. p.other (p.is ∙ v)) (λ v. n (q ∙ v)) (λ v. f (q ∙ v))) n
+          pub parted_other : (found ≡ not_found → ⊥) → Parted w table prefix len origin found rest
+          parted_other f = step (q ∙ more-other w prefix len origin (vrps w p.before) (vrps w x) (λ v. p.other (p.is ∙ v)) (λ v. n (q ∙ v)) (λ v. f (q ∙ v))) n

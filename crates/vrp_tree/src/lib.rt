@@ -1,5 +1,6 @@
 // The tree of the prefixes of a table of VRPs, in lent memory: triples of numbers, nodes from the front and records from the back (02, Q-7).
-// What it looks like is in specs/Memory.antt; `index` and `build` write it, `lookup` reads it.
+// What it looks like is in specs/Memory.antt; `index` and `build` write it, `lookup` reads it. Numbers and no boxes: the caller, often C, lends the
+// memory, and nothing is allocated.
 #![tactic(auto)]
 
 ghost use Rattle.std.specs.Prelude.{◌≡◌, ◌<◌};

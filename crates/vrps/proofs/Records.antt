@@ -6,9 +6,13 @@ use mathlib.Core.Option.{Option, none, some}
 use native.Mathlib.Nat.{le_trans}
 use borrow.Author.Tests.{lt-ltb, le-ltb, le-leb, lt-leb, leb-true, leb-false, eq-eqb, ne_eqb, not-false}
 use lib.Dec.{leb, ltb, eqb}
-use Rattle.rules.specs.Origin.{Vrp, bad_vrp, agree, covers, same_as, matches}
-use Rattle.rules.proofs.Lists.{and_left, and_right}
+use Rattle.std.specs.Prelude.{Some, None}
+use Rattle.std.specs.Prelude as std
+use Rattle.std.specs.Option.{option_eq}
+use Rattle.rules.specs.Origin.{Vrp, bad_vrp, agree, covers, same_as, told_origin, matches}
+use Rattle.rules.proofs.Lists.{and_left, and_right, eqb_swap}
 use Rattle.vrps.specs.Weighing.{allowed, weighed}
+use Rattle.vrps.specs.declared.Weight.TheVariants.{Apart, Covers, Matches}
 
 module _ (w : ℕ) (v : Vrp) where
   -- A length above the maximum; else the maximum decides.
@@ -42,16 +46,16 @@ module _ (w : ℕ) (v : Vrp) where
 
     -- What a VRP is to a route, by whether it covers and what it allows.
     module _ (origin : Option ℕ) where
-      pub weighed_apart : covers w v prefix len ≡ false → 0 ≡ weighed w v prefix len origin
+      pub weighed_apart : covers w v prefix len ≡ false → Apart ≡ weighed w v prefix len origin
       unfolding weighed matches
       weighed_apart e = rw e refl
 
       module _ (e : covers w v prefix len ≡ true) where
-        pub weighed-matches : allowed v len origin ≡ true → 2 ≡ weighed w v prefix len origin
+        pub weighed-matches : allowed v len origin ≡ true → Matches ≡ weighed w v prefix len origin
         unfolding weighed matches
         weighed-matches f = rw (e, f) refl
 
-        pub weighed-covers : allowed v len origin ≡ false → 1 ≡ weighed w v prefix len origin
+        pub weighed-covers : allowed v len origin ≡ false → Covers ≡ weighed w v prefix len origin
         unfolding weighed matches
         weighed-covers f = rw (e, f) refl
 
@@ -72,3 +76,8 @@ same_as-zero asn (some n) e = rw (eq-eqb asn 0 e, and-false) refl
 pub same_as_route : (asn n : ℕ) → (asn ≡ 0 → ⊥) → eqb asn n ≡ same_as asn (some n)
 unfolding same_as
 same_as_route asn n h = rw (ne_eqb asn 0 h, and-true) refl
+
+pub same_as_told : (asn : ℕ) (origin : std.Option ℕ) → (asn ≡ 0 → ⊥) → option_eq eqb origin (Some asn) ≡ same_as asn (told_origin origin)
+unfolding same_as told_origin
+same_as_told asn None h = refl
+same_as_told asn (Some n) h = eqb_swap n asn ∙ same_as_route asn n h

@@ -19,7 +19,12 @@ use Rattle.rules.proofs.Prefixes.{word_at, bits-low, words-equal, walk_last, wal
 use Rattle.octets.specs.Numbers.{Octets}
 use Rattle.octets.proofs.Slices.{part-is}
 use Rattle.octets.proofs.Numbers.{big_endian-below, word_bytes}
-use Rattle.vrps.specs.Widths.{Whole, word_in}
+use Rattle.vrps.specs.Widths.{Whole, bits, word_in}
+use Rattle.vrps.specs.declared.family.Family.{Family}
+
+-- The prefixes of a family are of whole words.
+pub whole_bits : (f : Family) → Whole (bits f)
+whole_bits f = record { even = f.even; least = f.least; most = f.most }
 
 -- The bytes of a prefix are as many as it is wide.
 pub prefix_width : {w : ℕ} → Whole w → (s : List ℕ) → w / 8 ≤ length s → 8 * length (take (w / 8) s) ≡ w

@@ -1,6 +1,11 @@
 -- The widths that prefixes have here, and the words of a prefix.
 use Rattle.std.specs.Prelude.{ℕ, zero, suc, ◌%◌, ◌≤◌, ◌≡◌}
 use Rattle.rules.specs.declared.Words.{Words}
+use Rattle.vrps.specs.declared.family.Family.{Family}
+
+-- The width of a family's prefixes in bits.
+abbrev pub bits : Family → ℕ
+bits f = f.bits
 
 -- A width of one to four whole words of 32 bits: that of IPv4 and that of IPv6 are.
 pub record Whole (w : ℕ) : Type 0 where

@@ -1,16 +1,50 @@
-// Prefixes as words, and their leading bits, 32 at a time (RFC 6811 section 2; 01, "Origin state"; 02, Q-1).
+// The two families of prefixes; prefixes as words, and their leading bits, 32 at a time (RFC 6811 section 2; 01, "Origin state"; 02, Q-1).
 ghost use Rattle.std.specs.Prelude.{◌≡◌, cond, ◌+◌, ◌-◌, ◌*◌, ◌/◌, ◌%◌, ◌^◌, ◌≤◌, ◌<◌, leb, length};
 ghost use Rattle.rules.specs.Bytes.{big_endian, part};
-ghost use Rattle.rules.specs.Origin.{ipv4, ipv6, spelled, prefix_in, bit_at, agree};
-ghost use Rattle.vrps.specs.Widths.{Whole, word_in};
+ghost use Rattle.rules.specs.Origin.{ipv4, ipv6, spelled, prefix_in, bit_at, agree, vrp_size};
+ghost use Rattle.vrps.specs.Widths.{Whole, bits, word_in};
 
+use super::family::Family;
 use octets::number4_at;
 use rules::Words;
 
-// The width of a prefix in bits, for IPv4 and IPv6.
+// The width of a prefix in bits, for IPv4 and IPv6: numbers too, for sizes of arrays, which a method can't say.
 pub const IPV4: usize = 32;
 
 pub const IPV6: usize = 128;
+
+// The bytes of a record after its prefix: length, maximum length, ASN 4.
+pub const AFTER_PREFIX: usize = 6;
+
+impl Family {
+    // IPv4: one word.
+    pub fn ipv4() -> Family
+        ensures { bits result ≡ ipv4 }
+    {
+        Family { bits: IPV4 }
+    }
+
+    // IPv6: four words.
+    pub fn ipv6() -> Family
+        ensures { bits result ≡ ipv6 }
+    {
+        Family { bits: IPV6 }
+    }
+
+    // The width of its prefixes in octets.
+    pub fn octets(self) -> usize
+        ensures { (result ≡ bits self / 8) × (8 * result ≡ bits self) × (4 ≤ result) × (result ≤ 16) }
+    {
+        self.bits / 8
+    }
+
+    // The bytes of a record: prefix, length, maximum length, ASN.
+    pub fn record_size(self) -> usize
+        ensures { (result ≡ vrp_size (bits self)) × (10 ≤ result) × (result ≤ 22) }
+    {
+        self.octets() + AFTER_PREFIX
+    }
+}
 
 // The bits of a word, and how many values it has.
 const WORD: u8 = 32;
@@ -80,7 +114,8 @@ pub fn bit(prefix: Words, i: usize) -> usize
     ((octet(prefix, i / 8) >> (7 - i % 8)) % 2) as usize
 }
 
-// Whether n leading bits of a prefix in bytes and of one in words agree: first the whole words, then the one that is cut. Internal.
+// Whether n leading bits of a prefix in bytes and of one in words agree: first the whole words, then the one that is cut. The bits left are
+// counted down: a `for` over the words, whose number is then found first, took half as long again. Internal.
 pub fn same_prefix(bytes: &[u8], prefix: Words, n: u8) -> bool
     requires { (Whole (8 * length bytes.now)) × (n ≤ 8 * length bytes.now) }
     ensures { result ≡ agree (8 * length bytes.now) n (big_endian bytes.now) (prefix_in (8 * length bytes.now) prefix) }

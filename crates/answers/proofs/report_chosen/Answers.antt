@@ -4,10 +4,10 @@ use Rattle.rules.specs.Answers.{answer_number, beside_number}
 use Rattle.rules.specs.Choice.{told_chosen, index_told, left_told}
 use Rattle.answers.proofs.report_chosen.Goals as goal
 
-pub returns-in-Route : goal.returns-in-Route
+pub returns-in-Ok : goal.returns-in-Ok
 unfolding told_chosen answer_number beside_number index_told left_told
-returns-in-Route c = rw c.in-Route.is (refl, refl, refl)
+returns-in-Ok c = rw c.in-Ok.is (refl, refl, refl)
 
-pub returns-in-Refused : goal.returns-in-Refused
+pub returns-in-Err : goal.returns-in-Err
 unfolding told_chosen answer_number beside_number index_told left_told
-returns-in-Refused c = rw c.in-Refused.is (c.report_refusal.ensures.0, c.report_refusal.ensures.1, refl)
+returns-in-Err c = rw c.in-Err.is (c.report_refusal.ensures.0, c.report_refusal.ensures.1, refl)

@@ -1,17 +1,19 @@
 -- `report_sent_check` meets its contract.
-use mathlib.Core.Path.{refl}
+use mathlib.Core.Path.{◌≡◌, refl, ◌∙◌}
+use Rattle.std.specs.Prelude.{Bool, true, false, cond}
+use Rattle.std.specs.Int.{from_bool}
 use Rattle.rules.specs.Answers.{answer_number, beside_number}
-use Rattle.rules.specs.OtherMake.{told_sent_check}
+use Rattle.rules.specs.OtherMake.{yes, no, told_sent_check}
 use Rattle.answers.proofs.report_sent_check.Goals as goal
 
-pub returns-in-Allowed : goal.returns-in-Allowed
+pub returns-in-Ok : goal.returns-in-Ok
 unfolding told_sent_check answer_number beside_number
-returns-in-Allowed c = rw c.in-Allowed.is (refl, refl)
+returns-in-Ok c = rw c.in-Ok.is (refl, c.from.ensures ∙ go c.in-Ok.allowed)
+  where
+    go : (b : Bool) → from_bool b ≡ cond b yes no
+    go true = refl
+    go false = refl
 
-pub returns-in-NotAllowed : goal.returns-in-NotAllowed
+pub returns-in-Err : goal.returns-in-Err
 unfolding told_sent_check answer_number beside_number
-returns-in-NotAllowed c = rw c.in-NotAllowed.is (refl, refl)
-
-pub returns-in-Refused : goal.returns-in-Refused
-unfolding told_sent_check answer_number beside_number
-returns-in-Refused c = rw c.in-Refused.is c.report_refusal.ensures
+returns-in-Err c = rw c.in-Err.is c.report_refusal.ensures

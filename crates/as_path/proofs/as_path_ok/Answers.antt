@@ -1,67 +1,30 @@
--- The loop's invariant: the path from `at` on is well formed where the path is. The measure is the bytes left.
-use Prim.Native.Nat.{ℕ, ◌+◌, ◌≤◌}
+-- The loop's invariant: the path that is left is well formed where the path is. The measure is the bytes left.
 use mathlib.Core.Path.{refl, sym, ap, ◌∙◌}
-use mathlib.Core.List.{List}
 use native.Mathlib.Omega.{arith}
-use lib.ListN.{length}
-use Rattle.rules.specs.Attributes.{segment_size}
-use Rattle.octets.proofs.Positions.{fit-room}
-use Rattle.as_path.proofs.Segments.{segment_least, path_torn, path_bad, path-good, path-end}
-use borrow.Author.Rules.{rules}
-use mathlib.Core.Bool.{not}
+use borrow.Author.Tests.{eqb-true, eqb-false}
+use lib.ListN.{length, length-append}
+use Rattle.as_path.proofs.Segments.{segment_least, path_torn, path_empty, path_bad, path-good}
 use Rattle.as_path.proofs.as_path_ok.Goals as goal
 
-pub loop-at-init : goal.loop-at-init
-loop-at-init c = (search rules, refl)
+pub loop-rest-init : goal.loop-rest-init
+loop-rest-init c = refl
 
-pub returns-then-n-eq0 : goal.returns-then-n-eq0
-returns-then-n-eq0 c =
-    let bytes : List ℕ = c.args.path.now in
-    sym (path_torn bytes c.loop-at.at c.fit_segment-n.ensures (omega arith) c.if-n-eq0.true) ∙ c.loop-at.invariant.1
-
-pub overflow_add-at : goal.overflow_add-at
-overflow_add-at c =
-    let bytes : List ℕ = c.args.path.now in
-    let fits : c.loop-at.at + c.fit_segment-n.result ≤ length bytes = fit-room segment_size bytes c.loop-at.at c.fit_segment-n.ensures c.loop-at.invariant.0 in
-    omega (arith, fits)
-
-pub slice_bounds-segment_ok-end : goal.slice_bounds-segment_ok-end
-slice_bounds-segment_ok-end c =
-    let bytes : List ℕ = c.args.path.now in
-    let fits : c.loop-at.at + c.fit_segment-n.result ≤ length bytes = fit-room segment_size bytes c.loop-at.at c.fit_segment-n.ensures c.loop-at.invariant.0 in
-    omega (arith, fits)
+pub returns-in_default : goal.returns-in_default
+returns-in_default c = sym (path_torn c.loop-rest.rest.now c.in_default.ensures (eqb-false (length c.loop-rest.rest.now) 0 (sym c.loop-rest-test.ensures))) ∙ c.loop-rest.invariant
 
 pub segment_ok-requires : goal.segment_ok-requires
-segment_ok-requires c =
-    let bytes : List ℕ = c.args.path.now in
-    segment_least bytes c.loop-at.at c.fit_segment-n.ensures c.if-n-eq0.false c.loop-at.invariant.0
+segment_ok-requires c = segment_least c.in-Some.segment.now c.in-Some.after.now c.in-Some.ensures
 
 pub returns-then-not-segment_ok : goal.returns-then-not-segment_ok
-returns-then-not-segment_ok c =
-    let bytes : List ℕ = c.args.path.now in
-    sym (path_bad bytes c.loop-at.at c.fit_segment-n.ensures c.if-n-eq0.false c.segment_ok.ensures (ap not c.if-not-segment_ok.true)) ∙ c.loop-at.invariant.1
+returns-then-not-segment_ok c = sym (path_bad c.in-Some.segment.now c.in-Some.after.now c.in-Some.ensures c.segment_ok.ensures c.if-not-segment_ok.true) ∙ c.loop-rest.invariant
 
-pub overflow_add-at-in-loop-at : goal.overflow_add-at-in-loop-at
-overflow_add-at-in-loop-at c =
-    let bytes : List ℕ = c.args.path.now in
-    let fits : c.loop-at.at + c.fit_segment-n.result ≤ length bytes = fit-room segment_size bytes c.loop-at.at c.fit_segment-n.ensures c.loop-at.invariant.0 in
-    omega (arith, fits)
+pub loop-rest-smaller : goal.loop-rest-smaller
+loop-rest-smaller c = let segment = c.in-Some.segment.now in
+    let after = c.in-Some.after.now in
+    omega (arith, ap length c.in-Some.ensures.is, length-append segment after, segment_least segment after c.in-Some.ensures)
 
-pub loop-at-smaller : goal.loop-at-smaller
-loop-at-smaller c =
-    let bytes : List ℕ = c.args.path.now in
-    let fits : c.loop-at.at + c.fit_segment-n.result ≤ length bytes = fit-room segment_size bytes c.loop-at.at c.fit_segment-n.ensures c.loop-at.invariant.0 in
-    omega (arith, fits)
-
-pub loop-at-preserved : goal.loop-at-preserved
-loop-at-preserved c =
-    let bytes : List ℕ = c.args.path.now in
-    let fits : c.loop-at.at + c.fit_segment-n.result ≤ length bytes = fit-room segment_size bytes c.loop-at.at c.fit_segment-n.ensures c.loop-at.invariant.0 in (
-      fits,
-      sym (path-good bytes c.loop-at.at c.fit_segment-n.ensures c.if-n-eq0.false c.segment_ok.ensures (ap not c.if-not-segment_ok.false)) ∙ c.loop-at.invariant.1,
-    )
+pub loop-rest-preserved : goal.loop-rest-preserved
+loop-rest-preserved c = sym (path-good c.in-Some.segment.now c.in-Some.after.now c.in-Some.ensures c.segment_ok.ensures c.if-not-segment_ok.false) ∙ c.loop-rest.invariant
 
 pub returns : goal.returns
-returns c =
-    let bytes : List ℕ = c.args.path.now in
-    sym (path-end bytes c.loop-at.at c.loop-at-test.false) ∙ c.loop-at.invariant.1
+returns c = sym (path_empty c.loop-rest.rest.now (eqb-true (length c.loop-rest.rest.now) 0 (sym c.loop-rest-test.ensures))) ∙ c.loop-rest.invariant

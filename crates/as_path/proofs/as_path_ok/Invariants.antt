@@ -1,12 +1,11 @@
--- The loop's invariant: the path from `at` on is well formed where the path is. The measure is the bytes left.
-use Prim.Native.Nat.{◌-◌, ◌≤◌}
+-- The loop's invariant: the path that is left is well formed where the path is. The measure is the bytes left.
 use mathlib.Core.Path.{◌≡◌}
-use lib.ListN.{length, drop}
+use lib.ListN.{length}
 use Rattle.rules.specs.Attributes.{as_path_ok}
 use Rattle.as_path.proofs.as_path_ok.Given as goal
 
-abbrev pub invariant-loop-at : goal.invariant-loop-at
-invariant-loop-at l = (l.at ≤ length l.path) × (as_path_ok (drop l.at l.path) ≡ as_path_ok l.path)
+abbrev pub invariant-loop-rest : goal.invariant-loop-rest
+invariant-loop-rest l = as_path_ok l.rest ≡ as_path_ok l.path
 
-abbrev pub decreases-loop-at : goal.decreases-loop-at
-decreases-loop-at l = length l.path - l.at
+abbrev pub decreases-loop-rest : goal.decreases-loop-rest
+decreases-loop-rest l = length l.rest

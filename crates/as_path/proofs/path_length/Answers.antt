@@ -1,68 +1,34 @@
--- The loop's invariant: what is counted and the length of the path from `at` on make the length of the path, which is at
--- most its bytes. The measure is the bytes left.
-use Prim.Native.Nat.{ℕ, ◌+◌, ◌≤◌}
-use mathlib.Core.Path.{◌≡◌}
-use mathlib.Core.List.{List}
+-- The loop's invariant: what is counted and the length of the path that is left make the length of the path, which is at most its bytes.
+-- The measure is the bytes left.
+use mathlib.Core.Path.{ap}
 use native.Mathlib.Omega.{arith}
-use lib.ListN.{length, drop}
-use Rattle.rules.specs.Attributes.{segment_size, segments}
-use Rattle.rules.specs.Choice.{path_length}
-use Rattle.octets.proofs.Positions.{fit-room}
-use Rattle.as_path.proofs.Segments.{segment_least, path_length-le, path_length-none, path_length-next, segments_torn, segments-end}
+use lib.ListN.{length, length-append}
+use Rattle.as_path.proofs.Segments.{segment_least, path_length-item, path_length-next, path_length-none}
 use Rattle.as_path.proofs.path_length.Goals as goal
 
-pub returns-then-n-eq0 : goal.returns-then-n-eq0
-returns-then-n-eq0 c =
-    let bytes : List ℕ = c.args.path.now in
-    omega (arith, path_length-none (segments_torn bytes c.loop-at.at c.fit_segment-n.ensures c.if-n-eq0.true), c.loop-at.invariant.1)
-
-pub overflow_add-at : goal.overflow_add-at
-overflow_add-at c =
-    let bytes : List ℕ = c.args.path.now in
-    let fits : c.loop-at.at + c.fit_segment-n.result ≤ length bytes = fit-room segment_size bytes c.loop-at.at c.fit_segment-n.ensures c.loop-at.invariant.0 in
-    omega (arith, fits)
-
-pub slice_bounds-segment_length-end : goal.slice_bounds-segment_length-end
-slice_bounds-segment_length-end c =
-    let bytes : List ℕ = c.args.path.now in
-    let fits : c.loop-at.at + c.fit_segment-n.result ≤ length bytes = fit-room segment_size bytes c.loop-at.at c.fit_segment-n.ensures c.loop-at.invariant.0 in
-    omega (arith, fits)
+pub loop-segment-init : goal.loop-segment-init
+loop-segment-init c = (omega arith, omega arith)
 
 pub segment_length-total-requires : goal.segment_length-total-requires
-segment_length-total-requires c =
-    let bytes : List ℕ = c.args.path.now in
-    segment_least bytes c.loop-at.at c.fit_segment-n.ensures c.if-n-eq0.false c.loop-at.invariant.0
+segment_length-total-requires c = segment_least c.in-Some.segment.now c.in-Some.after.now c.in-Some.ensures
 
 pub overflow_add-total : goal.overflow_add-total
-overflow_add-total c =
-    let bytes : List ℕ = c.args.path.now in
-    let next : c.loop-at.total + c.segment_length-total.result
-    + path_length (segments (drop (c.loop-at.at + c.fit_segment-n.result) bytes))
-    ≡ path_length (segments bytes) = omega (arith, path_length-next bytes c.loop-at.at c.fit_segment-n.ensures c.if-n-eq0.false, c.segment_length-total.ensures, c.loop-at.invariant.1) in
-    omega (arith, next, path_length-le bytes)
+overflow_add-total c = let segment = c.in-Some.segment.now in
+    let after = c.in-Some.after.now in
+    omega (arith, c.segment_length-total.ensures, path_length-item segment after c.in-Some.ensures, ap length c.in-Some.ensures.is, length-append segment after, c.loop-segment.invariant.1)
 
-pub overflow_add-at-in-loop-at : goal.overflow_add-at-in-loop-at
-overflow_add-at-in-loop-at c =
-    let bytes : List ℕ = c.args.path.now in
-    let fits : c.loop-at.at + c.fit_segment-n.result ≤ length bytes = fit-room segment_size bytes c.loop-at.at c.fit_segment-n.ensures c.loop-at.invariant.0 in
-    omega (arith, fits)
+pub loop-segment-smaller : goal.loop-segment-smaller
+loop-segment-smaller c = let segment = c.in-Some.segment.now in
+    let after = c.in-Some.after.now in
+    omega (arith, ap length c.in-Some.ensures.is, length-append segment after, segment_least segment after c.in-Some.ensures)
 
-pub loop-at-smaller : goal.loop-at-smaller
-loop-at-smaller c =
-    let bytes : List ℕ = c.args.path.now in
-    let fits : c.loop-at.at + c.fit_segment-n.result ≤ length bytes = fit-room segment_size bytes c.loop-at.at c.fit_segment-n.ensures c.loop-at.invariant.0 in
-    omega (arith, fits)
-
-pub loop-at-preserved : goal.loop-at-preserved
-loop-at-preserved c =
-    let bytes : List ℕ = c.args.path.now in
-    let fits : c.loop-at.at + c.fit_segment-n.result ≤ length bytes = fit-room segment_size bytes c.loop-at.at c.fit_segment-n.ensures c.loop-at.invariant.0 in
-    let next : c.loop-at.total + c.segment_length-total.result
-    + path_length (segments (drop (c.loop-at.at + c.fit_segment-n.result) bytes))
-    ≡ path_length (segments bytes) = omega (arith, path_length-next bytes c.loop-at.at c.fit_segment-n.ensures c.if-n-eq0.false, c.segment_length-total.ensures, c.loop-at.invariant.1) in
-    (fits, next)
+pub loop-segment-preserved : goal.loop-segment-preserved
+loop-segment-preserved c = let segment = c.in-Some.segment.now in
+    let after = c.in-Some.after.now in
+    let counted = c.segment_length-total.ensures in (
+      omega (arith, counted, path_length-next segment after c.in-Some.ensures, c.loop-segment.invariant.0),
+      omega (arith, counted, path_length-item segment after c.in-Some.ensures, ap length c.in-Some.ensures.is, length-append segment after, c.loop-segment.invariant.1),
+    )
 
 pub returns : goal.returns
-returns c =
-    let bytes : List ℕ = c.args.path.now in
-    omega (arith, path_length-none (segments-end bytes c.loop-at.at c.loop-at-test.false), c.loop-at.invariant.1)
+returns c = omega (arith, path_length-none c.loop-segment.rest.now c.in_default.ensures, c.loop-segment.invariant.0)

@@ -1,69 +1,34 @@
--- The loop's invariant: the origin so far, or the last of the segments from `at` on, gives the origin of the path.
--- The measure is the bytes left.
-use Prim.Native.Nat.{ℕ, ◌+◌, ◌≤◌}
+-- The loop's invariant: the origin so far, or the last of the segments that are left, gives the origin of the path. The measure is the bytes
+-- left.
 use mathlib.Core.Path.{sym, ap, ◌∙◌}
-use mathlib.Core.List.{List, map}
+use mathlib.Core.List.{map}
 use mathlib.Core.Option.{Option}
+use Prim.Native.Nat.{ℕ}
 use native.Mathlib.Omega.{arith}
-use lib.ListN.{length, drop}
+use lib.ListN.{length, length-append}
 use Rattle.rules.specs.Bytes.{last_or}
-use Rattle.rules.specs.Attributes.{segment_size, segments}
+use Rattle.rules.specs.Attributes.{segments}
 use Rattle.rules.specs.Origin.{final_origin, told_origin}
-use Rattle.octets.proofs.Positions.{fit-room}
-use Rattle.as_path.proofs.Segments.{segment_whole, origin_last, origin-none, origin-next, segments_torn, segments-end}
-use borrow.Author.Rules.{rules}
+use Rattle.as_path.proofs.Segments.{segment_least, segment_whole, origin_last, origin-none, origin-next}
 use Rattle.as_path.proofs.path_origin.Goals as goal
 
-pub loop-at-init : goal.loop-at-init
+pub loop-segment-init : goal.loop-segment-init
 unfolding told_origin
-loop-at-init c = (search rules, sym (origin_last c.args.own (segments c.args.path.now)))
-
-pub returns-then-n-eq0 : goal.returns-then-n-eq0
-returns-then-n-eq0 c =
-    let bytes : List ℕ = c.args.path.now in
-    sym (origin-none (told_origin c.loop-at.origin) (segments_torn bytes c.loop-at.at c.fit_segment-n.ensures c.if-n-eq0.true)) ∙ c.loop-at.invariant.1
-
-pub overflow_add-at : goal.overflow_add-at
-overflow_add-at c =
-    let bytes : List ℕ = c.args.path.now in
-    let fits : c.loop-at.at + c.fit_segment-n.result ≤ length bytes = fit-room segment_size bytes c.loop-at.at c.fit_segment-n.ensures c.loop-at.invariant.0 in
-    omega (arith, fits)
-
-pub slice_bounds-final_origin-end : goal.slice_bounds-final_origin-end
-slice_bounds-final_origin-end c =
-    let bytes : List ℕ = c.args.path.now in
-    let fits : c.loop-at.at + c.fit_segment-n.result ≤ length bytes = fit-room segment_size bytes c.loop-at.at c.fit_segment-n.ensures c.loop-at.invariant.0 in
-    omega (arith, fits)
+loop-segment-init c = sym (origin_last c.args.own (segments c.args.path.now))
 
 pub final_origin-origin-requires : goal.final_origin-origin-requires
-final_origin-origin-requires c =
-    let bytes : List ℕ = c.args.path.now in
-    segment_whole bytes c.loop-at.at c.fit_segment-n.ensures c.if-n-eq0.false c.loop-at.invariant.0
+final_origin-origin-requires c = segment_whole c.in-Some.segment.now c.in-Some.after.now c.in-Some.ensures
 
-pub overflow_add-at-in-loop-at : goal.overflow_add-at-in-loop-at
-overflow_add-at-in-loop-at c =
-    let bytes : List ℕ = c.args.path.now in
-    let fits : c.loop-at.at + c.fit_segment-n.result ≤ length bytes = fit-room segment_size bytes c.loop-at.at c.fit_segment-n.ensures c.loop-at.invariant.0 in
-    omega (arith, fits)
+pub loop-segment-smaller : goal.loop-segment-smaller
+loop-segment-smaller c = let segment = c.in-Some.segment.now in
+    let after = c.in-Some.after.now in
+    omega (arith, ap length c.in-Some.ensures.is, length-append segment after, segment_least segment after c.in-Some.ensures)
 
-pub loop-at-smaller : goal.loop-at-smaller
-loop-at-smaller c =
-    let bytes : List ℕ = c.args.path.now in
-    let fits : c.loop-at.at + c.fit_segment-n.result ≤ length bytes = fit-room segment_size bytes c.loop-at.at c.fit_segment-n.ensures c.loop-at.invariant.0 in
-    omega (arith, fits)
-
-pub loop-at-preserved : goal.loop-at-preserved
-loop-at-preserved c =
-    let bytes : List ℕ = c.args.path.now in
-    let fits : c.loop-at.at + c.fit_segment-n.result ≤ length bytes = fit-room segment_size bytes c.loop-at.at c.fit_segment-n.ensures c.loop-at.invariant.0 in
-    let rest = map final_origin (segments (drop (c.loop-at.at + c.fit_segment-n.result) bytes)) in (
-      fits,
-      ap (λ (o : Option ℕ). last_or o rest) c.final_origin-origin.ensures
-          ∙ sym (origin-next bytes c.loop-at.at c.fit_segment-n.ensures c.if-n-eq0.false (told_origin c.loop-at.origin))
-          ∙ c.loop-at.invariant.1,
-    )
+pub loop-segment-preserved : goal.loop-segment-preserved
+loop-segment-preserved c = let segment = c.in-Some.segment.now in
+    let after = c.in-Some.after.now in
+    ap (λ (o : Option ℕ). last_or o (map final_origin (segments after))) c.final_origin-origin.ensures
+    ∙ sym (origin-next segment after c.in-Some.ensures (told_origin c.loop-segment.origin)) ∙ c.loop-segment.invariant
 
 pub returns : goal.returns
-returns c =
-    let bytes : List ℕ = c.args.path.now in
-    sym (origin-none (told_origin c.loop-at.origin) (segments-end bytes c.loop-at.at c.loop-at-test.false)) ∙ c.loop-at.invariant.1
+returns c = sym (origin-none c.loop-segment.rest.now c.in_default.ensures (told_origin c.loop-segment.origin)) ∙ c.loop-segment.invariant

@@ -3,6 +3,7 @@ use Prim.Native.Nat.{ℕ, ◌+◌, ◌≤◌}
 use mathlib.Core.Path.{◌≡◌, sym, ◌∙◌}
 use mathlib.Core.List.{List}
 use native.Mathlib.Omega.{arith}
+use Rattle.std.proofs.lemmas.Result.{err_from_is_err_and}
 use lib.ListN.{length, drop}
 use Rattle.rules.specs.Rows.{fit}
 use Rattle.rules.specs.Attributes.{attribute_size}
@@ -39,23 +40,24 @@ bounds-a-1 c =
     let size : c.fit_attribute-n.result ≡ fit attribute_size (drop c.loop-at.at bytes) = fit-here attribute_size bytes c.loop-at.at c.fit_attribute-n.ensures in
     rw part-is (omega (arith, item-length (drop c.loop-at.at bytes) size c.if-n-eq0.false, item-least (drop c.loop-at.at bytes) size c.if-n-eq0.false))
 
-pub returns-then-earlier-ne0 : goal.returns-then-earlier-ne0
-returns-then-earlier-ne0 c =
+pub returns-then-earlier : goal.returns-then-earlier
+returns-then-earlier c =
     let bytes : List ℕ = c.args.block.now in
     let size : c.fit_attribute-n.result ≡ fit attribute_size (drop c.loop-at.at bytes) = fit-here attribute_size bytes c.loop-at.at c.fit_attribute-n.ensures in
-    walk_repeated c.loop-at.invariant size c.if-n-eq0.false c.wide-k.ensures.0 c.wide-k.ensures.1 c.if-earlier-ne0.true
+    walk_repeated c.loop-at.invariant size c.if-n-eq0.false c.wide-k.ensures.0 c.wide-k.ensures.1 c.if-earlier.true
 
-pub note-noted-requires : goal.note-noted-requires
-note-noted-requires c =
+pub note-requires : goal.note-requires
+note-requires c =
     let bytes : List ℕ = c.args.block.now in
     let size : c.fit_attribute-n.result ≡ fit attribute_size (drop c.loop-at.at bytes) = fit-here attribute_size bytes c.loop-at.at c.fit_attribute-n.ensures in
     item-whole bytes c.loop-at.at size c.if-n-eq0.false
 
-pub returns-then-fault-ne0 : goal.returns-then-fault-ne0
-returns-then-fault-ne0 c =
+pub returns-in_err-layout : goal.returns-in_err-layout
+returns-in_err-layout c =
+    let p = err_from_is_err_and c.from_residual.result c.from_residual.ensures.1 in
     let bytes : List ℕ = c.args.block.now in
     let size : c.fit_attribute-n.result ≡ fit attribute_size (drop c.loop-at.at bytes) = fit-here attribute_size bytes c.loop-at.at c.fit_attribute-n.ensures in
-    walk_own c.loop-at.invariant size c.if-n-eq0.false c.wide-k.ensures.0 c.wide-k.ensures.1 c.if-earlier-ne0.false c.note-noted.ensures.0 c.if-fault-ne0.true
+    rw (p.1, p.2) (walk_own c.loop-at.invariant size c.if-n-eq0.false c.wide-k.ensures.0 c.wide-k.ensures.1 c.if-earlier.false c.in_err-layout.ensures)
 
 pub overflow_add-at : goal.overflow_add-at
 overflow_add-at c =
@@ -75,13 +77,13 @@ loop-at-preserved c =
     let bytes : List ℕ = c.args.block.now in
     let size : c.fit_attribute-n.result ≡ fit attribute_size (drop c.loop-at.at bytes) = fit-here attribute_size bytes c.loop-at.at c.fit_attribute-n.ensures in
     let fits : c.loop-at.at + c.fit_attribute-n.result ≤ length bytes = fit-room attribute_size bytes c.loop-at.at c.fit_attribute-n.ensures c.loop-at.invariant.within in
-    walk_on c.loop-at.invariant size c.if-n-eq0.false c.wide-k.ensures.0 c.wide-k.ensures.1 c.if-earlier-ne0.false c.note-noted.ensures.0 c.if-fault-ne0.false fits c.note-noted.ensures.1
+    walk_on c.loop-at.invariant size c.if-n-eq0.false c.wide-k.ensures.0 c.wide-k.ensures.1 c.if-earlier.false fits c.in_ok-layout.ensures
 
-pub returns-then-seen-eq0 : goal.returns-then-seen-eq0
-returns-then-seen-eq0 c = walk_no-origin c.loop-at.invariant c.loop-at-test.false c.if-seen-eq0.true
+pub returns-then-not-seen : goal.returns-then-not-seen
+returns-then-not-seen c = walk_no-origin c.loop-at.invariant c.loop-at-test.false c.if-not-seen.true
 
-pub returns-then-seen-eq0-2 : goal.returns-then-seen-eq0-2
-returns-then-seen-eq0-2 c = walk_no-path c.loop-at.invariant c.loop-at-test.false c.if-seen-eq0.false c.if-seen-eq0-2.true
+pub returns-then-not-seen-2 : goal.returns-then-not-seen-2
+returns-then-not-seen-2 c = walk_no-path c.loop-at.invariant c.loop-at-test.false c.if-not-seen.false c.if-not-seen-2.true
 
 pub returns : goal.returns
-returns c = walk_clean c.loop-at.invariant c.loop-at-test.false c.if-seen-eq0.false c.if-seen-eq0-2.false
+returns c = walk_clean c.loop-at.invariant c.loop-at-test.false c.if-not-seen.false c.if-not-seen-2.false

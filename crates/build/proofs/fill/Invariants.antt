@@ -1,11 +1,13 @@
--- `fill` meets its contract. The loop's invariant is that of a run over the table that has come to `at`.
-use Prim.Native.Nat.{◌-◌}
-use lib.ListN.{length}
+-- `fill` meets its contract. The loop's invariant is that of a run over the table that has so many bytes left.
+use Prim.Native.Nat.{◌<◌}
+use mathlib.Core.Path.{◌≡◌}
+use Rattle.std.specs.Slice.Iter.{chunks_exact_rest, chunks_exact_size}
+use Rattle.std.specs.Iterator.Adapters.{enumerate_source, enumerate_count}
+use Rattle.rules.specs.Origin.{vrp_size}
+use Rattle.vrps.specs.Widths.{bits}
 use Rattle.build.proofs.Filling.{Run}
 use Rattle.build.proofs.fill.Given as goal
 
-abbrev pub invariant-loop-at : goal.invariant-loop-at
-invariant-loop-at l = Run l.width l.table l.initial.memory l.memory l.nodes l.at l.records
-
-abbrev pub decreases-loop-at : goal.decreases-loop-at
-decreases-loop-at l = length l.table - l.at
+abbrev pub invariant-loop-index : goal.invariant-loop-index
+invariant-loop-index l = (chunks_exact_size (enumerate_source l.index-iterator) ≡ vrp_size (bits l.family)) × (0 < chunks_exact_size (enumerate_source l.index-iterator))
+    × Run (bits l.family) l.table l.initial.memory l.memory l.nodes (chunks_exact_rest (enumerate_source l.index-iterator)) (enumerate_count l.index-iterator)

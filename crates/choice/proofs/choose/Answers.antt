@@ -1,17 +1,12 @@
--- `choose` meets its contract. The loop's invariant: the candidates before `index` are met.
-use Prim.Native.Nat.{ℕ, ◌<◌}
+-- `choose` meets its contract. The loop's invariant: the candidates before those left to the iterator are met.
+use Prim.Native.Nat.{ℕ}
 use mathlib.Core.Path.{◌≡◌, sym, ◌∙◌}
 use mathlib.Core.Bool.{true}
 use mathlib.Core.List.{List}
-use native.Mathlib.Omega.{arith}
-use Rattle.rules.specs.Answers.{Answer, refused}
-use Rattle.rules.specs.Settings.{candidates_max, mode_ok}
-use Rattle.rules.specs.Choice.{Choice, bad_offer, choose_in, told_chosen}
-use Rattle.rules.specs.declared.Refusal.TheVariants.{BadCandidate}
-use Rattle.choice.specs.Bests.{left_in}
+use Rattle.rules.specs.Settings.{mode_ok}
+use Rattle.rules.specs.Choice.{told_chosen}
 use Rattle.choice.proofs.Candidates.{lent, range_bad, fault_bad, clean-good, clean_reads, offer-outside, offer-inside}
-use Rattle.choice.proofs.Choosing.{met_start, met_next, choose_setting, choose_torn, choose_many, choose_bad, choose-none, choose-some}
-use borrow.Author.Rules.{rules}
+use Rattle.choice.proofs.Choosing.{met_start, met_room, met_next, choose_setting, choose_torn, choose_many, choose_bad, choose-none, choose-some}
 use Rattle.choice.proofs.choose.Goals as goal
 use Rattle.choice.proofs.choose.Goals.{then-offers-ne0-via-then-offers-ne0, then-offers-ne0-via-else-offers-ne0+then-count-gt-CANDIDATES_MAX}
 
@@ -30,62 +25,63 @@ returns-then-offers-ne0 c =
     ]
 
 pub loop-index-init : goal.loop-index-init
-loop-index-init c = (omega arith, c.if-count-gt-CANDIDATES_MAX.false, met_start _ _ _ _)
+loop-index-init c = rw (c.into_iter-index-iterator.ensures.into_iter_gives, c.enumerate-index-items.ensures.source, c.enumerate-index-items.ensures.count, c.chunks_exact.ensures.rest)
+    (met_start _ _ _ _, c.chunks_exact.ensures.size)
 
 pub returns-then-buffer-end : goal.returns-then-buffer-end
 unfolding told_chosen
 returns-then-buffer-end c =
-    let bufferAt : List ℕ = c.args.buffer.now in
     let ok : mode_ok c.args.mode ≡ true = sym c.mode_ok.ensures ∙ c.if-not-mode_ok.false in
-    let decided : Answer Choice = let a = c.args in
-    choose_in a.mode a.client a.buffer.now a.offers.now in
-    let refuses : bad_offer bufferAt c.read_offer-offer.result ≡ true
-    → refused (BadCandidate c.loop-index.index) ≡ decided = λ e. choose_bad _ _ bufferAt _ ok c.if-offers-ne0.false c.loop-index.invariant.1 c.loop-index.invariant.2 c.loop-index-test.true c.read_offer-offer.ensures e in
-    refuses (offer-outside bufferAt c.read_offer-offer.result c.if-buffer-end.true)
+    let b : List ℕ = c.args.buffer.now in
+    let o = c.read_offer-offer.result in
+    let e = c.in-Some.ensures.steps in
+    rw e.1 (choose_bad _ _ _ _ ok c.if-offers-ne0.false c.if-count-gt-CANDIDATES_MAX.false c.loop-index.invariant.0 _ _ e.0.1.0 (e.0.1.1 ∙ c.loop-index.invariant.1) c.read_offer-offer.ensures
+    (offer-outside b o c.if-buffer-end.true))
 
 pub returns-then-out_of_range : goal.returns-then-out_of_range
 unfolding told_chosen
 returns-then-out_of_range c =
-    let bufferAt : List ℕ = c.args.buffer.now in
     let ok : mode_ok c.args.mode ≡ true = sym c.mode_ok.ensures ∙ c.if-not-mode_ok.false in
-    let decided : Answer Choice = let a = c.args in
-    choose_in a.mode a.client a.buffer.now a.offers.now in
-    let refuses : bad_offer bufferAt c.read_offer-offer.result ≡ true
-    → refused (BadCandidate c.loop-index.index) ≡ decided = λ e. choose_bad _ _ bufferAt _ ok c.if-offers-ne0.false c.loop-index.invariant.1 c.loop-index.invariant.2 c.loop-index-test.true c.read_offer-offer.ensures e in
-    let b = bufferAt in
-    refuses (offer-inside b c.read_offer-offer.result c.if-buffer-end.false (range_bad (lent b c.read_offer-offer.result) c.out_of_range.ensures c.if-out_of_range.true))
+    let b : List ℕ = c.args.buffer.now in
+    let o = c.read_offer-offer.result in
+    let e = c.in-Some.ensures.steps in
+    rw e.1 (choose_bad _ _ _ _ ok c.if-offers-ne0.false c.if-count-gt-CANDIDATES_MAX.false c.loop-index.invariant.0 _ _ e.0.1.0 (e.0.1.1 ∙ c.loop-index.invariant.1) c.read_offer-offer.ensures
+    (offer-inside b o c.if-buffer-end.false (range_bad (lent b o) c.out_of_range.ensures c.if-out_of_range.true)))
 
 pub returns-in_default : goal.returns-in_default
 unfolding told_chosen
 returns-in_default c =
-    let bufferAt : List ℕ = c.args.buffer.now in
     let ok : mode_ok c.args.mode ≡ true = sym c.mode_ok.ensures ∙ c.if-not-mode_ok.false in
-    let decided : Answer Choice = let a = c.args in
-    choose_in a.mode a.client a.buffer.now a.offers.now in
-    let refuses : bad_offer bufferAt c.read_offer-offer.result ≡ true
-    → refused (BadCandidate c.loop-index.index) ≡ decided = λ e. choose_bad _ _ bufferAt _ ok c.if-offers-ne0.false c.loop-index.invariant.1 c.loop-index.invariant.2 c.loop-index-test.true c.read_offer-offer.ensures e in
-    let b = bufferAt in
-    refuses (offer-inside b c.read_offer-offer.result c.if-buffer-end.false (fault_bad (lent b c.read_offer-offer.result) c.out_of_range.ensures c.if-out_of_range.false c.read-reading.ensures c.in_default.is))
+    let b : List ℕ = c.args.buffer.now in
+    let o = c.read_offer-offer.result in
+    let e = c.in-Some.ensures.steps in
+    rw e.1 (choose_bad _ _ _ _ ok c.if-offers-ne0.false c.if-count-gt-CANDIDATES_MAX.false c.loop-index.invariant.0 _ _ e.0.1.0 (e.0.1.1 ∙ c.loop-index.invariant.1) c.read_offer-offer.ensures
+    (offer-inside b o c.if-buffer-end.false (fault_bad (lent b o) c.out_of_range.ensures c.if-out_of_range.false c.read.ensures c.in_default.is)))
 
 pub take-best-requires : goal.take-best-requires
-take-best-requires c = let h : left_in c.loop-index.best < candidates_max = omega (arith, c.loop-index.invariant.2.few, c.loop-index-test.true, c.loop-index.invariant.1) in
-    (clean_reads _ c.read-reading.ensures c.in-Clean.is, h)
+take-best-requires c =
+    let e = c.in-Some.ensures.steps in
+    (clean_reads _ c.read.ensures c.in-Ok.is, met_room c.loop-index.invariant.0 _ _ e.0.1.0 (e.0.1.1 ∙ c.loop-index.invariant.1) c.read_offer-offer.ensures c.if-count-gt-CANDIDATES_MAX.false)
 
 pub loop-index-preserved : goal.loop-index-preserved
 loop-index-preserved c =
-    let bufferAt : List ℕ = c.args.buffer.now in
-    let b = bufferAt in
-    let e = offer-inside b c.read_offer-offer.result c.if-buffer-end.false (clean-good (lent b c.read_offer-offer.result) c.out_of_range.ensures c.if-out_of_range.false c.read-reading.ensures c.in-Clean.is) in
-    (search rules, c.loop-index.invariant.1, met_next c.loop-index.invariant.2 c.loop-index-test.true c.read_offer-offer.ensures e c.take-best.ensures)
+    let b : List ℕ = c.args.buffer.now in
+    let o = c.read_offer-offer.result in
+    let e = c.in-Some.ensures.steps in
+    let good = offer-inside b o c.if-buffer-end.false (clean-good (lent b o) c.out_of_range.ensures c.if-out_of_range.false c.read.ensures c.in-Ok.is) in
+    let next = met_next c.loop-index.invariant.0 _ _ e.0.1.0 (e.0.1.1 ∙ c.loop-index.invariant.1) c.read_offer-offer.ensures good (rw e.1 at c.take-best.ensures) in
+    (rw e.2 next, e.0.0 ∙ c.loop-index.invariant.1)
 
 pub returns-in_default-best : goal.returns-in_default-best
 unfolding told_chosen
 returns-in_default-best c =
     let ok : mode_ok c.args.mode ≡ true = sym c.mode_ok.ensures ∙ c.if-not-mode_ok.false in
-    choose-none _ _ _ _ ok c.if-offers-ne0.false c.loop-index.invariant.1 c.loop-index.invariant.2 c.loop-index-test.false c.mode_meant-meant.ensures c.in_default-best.is
+    let e = c.in-None.ensures.steps in
+    choose-none _ _ _ _ ok c.if-offers-ne0.false c.if-count-gt-CANDIDATES_MAX.false c.loop-index.invariant.0 (rw c.loop-index.invariant.1 at e.0.1.0) c.mode_meant-meant.ensures c.in_default-best.is
 
 pub returns : goal.returns
 unfolding told_chosen
 returns c =
     let ok : mode_ok c.args.mode ≡ true = sym c.mode_ok.ensures ∙ c.if-not-mode_ok.false in
-    choose-some _ _ _ _ ok c.if-offers-ne0.false c.loop-index.invariant.1 c.loop-index.invariant.2 c.loop-index-test.false c.mode_meant-meant.ensures c.in-Route.is
+    let e = c.in-None.ensures.steps in
+    choose-some _ _ _ _ ok c.if-offers-ne0.false c.if-count-gt-CANDIDATES_MAX.false c.loop-index.invariant.0 (rw c.loop-index.invariant.1 at e.0.1.0) c.mode_meant-meant.ensures c.in-Some-best.is

@@ -1,7 +1,7 @@
 -- `hand_over` meets its contract.
 use mathlib.Core.Path.{refl, ◌∙◌}
 use native.Mathlib.Omega.{arith}
-use Rattle.desk.proofs.Handing.{handing_start, handing_on_lem, handing_end}
+use Rattle.desk.proofs.Handing.{handing_start, handing_on_lem, handing_broken, handing_end}
 use Rattle.desk.proofs.hand_over.Goals as goal
 
 pub loop-at-init : goal.loop-at-init
@@ -18,3 +18,6 @@ loop-at-preserved g c =
 
 pub returns : goal.returns
 returns g c = handing_end c.loop-at.invariant.0 (omega (arith, c.loop-at-test.false))
+
+pub returns-in_err-write_all : goal.returns-in_err-write_all
+returns-in_err-write_all g c = handing_broken (handing_on_lem c.loop-at.invariant.0 c.feed-progress.ensures c.emptied-now.ensures) _ c.from_residual.ensures.0

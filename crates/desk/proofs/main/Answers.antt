@@ -11,9 +11,9 @@ use Rattle.desk_lines.specs.Machine.{begun}
 use Rattle.desk.proofs.Handing.{ready-begun}
 use Rattle.desk.proofs.main.Goals as goal
 
-pub loop-turns-init : goal.loop-turns-init
+pub loop-init : goal.loop-init
 unfolding begun
-loop-turns-init c = (
+loop-init c = (
   refl,
   refl,
   record {

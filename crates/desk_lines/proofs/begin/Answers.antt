@@ -5,4 +5,4 @@ use Rattle.desk_lines.proofs.begin.Goals as goal
 
 pub returns : goal.returns
 unfolding begun
-returns c = rw c.session_of.ensures refl
+returns c = refl

@@ -1,59 +1,54 @@
 -- `answer_frame` meets its contract, by the kind of the frame.
-use mathlib.Core.Path.{refl, sym, subst}
-use native.Mathlib.Omega.{arith}
-use borrow.Author.Tests.{not-true, not-false}
-use lib.Seq.{length-take-le}
-use Rattle.rules.specs.Origin.{ipv4, ipv6}
-use Rattle.vrp_tables.specs.Scan.{GoodTable}
+use mathlib.Core.Path.{refl, ◌∙◌}
+use borrow.Author.Tests.{ne_eqb}
+use Rattle.desk_memory.specs.declared.kinds.Ip.TheVariants.{V4, V6}
+use Rattle.frames.proofs.Framing.{replies-refused}
+use Rattle.desk_memory.specs.declared.kinds.Kind.TheVariants.{Receipt}
 use Rattle.desk_memory.proofs.Tabling.{taken-records}
-use Rattle.desk_memory.proofs.ByKind.{ipv4-whole, ipv6-whole, lent_4, lent_6, frame-session, frame-vrp, frame_vrp6, frame-receipt, frame_receipt6, frame_sending, frame-no-session, frame_unknown}
-use Rattle.desk_memory.proofs.Fields.{tells_receipt, tells_receipt6, tells_plain, tells_unreadable}
+use Rattle.desk_memory.proofs.ByKind.{kept-table, frame-session, frame-vrp, frame-receipt, frame-sending, frame_no_receipt, frame_no_sending, frame_unknown}
+use Rattle.desk_memory.proofs.Fields.{tells-receipt, tells-dashed, tells_plain, tells-vrp}
 use Rattle.desk_memory.proofs.answer_frame.Goals as goal
 
-pub returns-then-kind-eq-SESSION : goal.returns-then-kind-eq-SESSION
-returns-then-kind-eq-SESSION c = let a = c.args in
-    rw (c.plain.ensures, frame-session a.kept a.tables.now a.frame.now c.if-kind-eq-SESSION.true) (tells_plain a.frame.now 1 c.if-kind-eq-SESSION.true refl refl c.session_frame.ensures)
+pub returns-in_default : goal.returns-in_default
+returns-in_default c = let a = c.args in
+    let n = c.in_default.ensures in
+    rw c.plain.ensures
+    (tells_plain a.frame.now (ne_eqb _ _ (n (Receipt V4))) (ne_eqb _ _ (n (Receipt V6))) (replies-refused a.made.now (frame_unknown a.kept a.tables.now a.frame.now n)))
 
-pub returns-then-kind-eq-VRP : goal.returns-then-kind-eq-VRP
-returns-then-kind-eq-VRP c = let a = c.args in
-    rw (c.plain-then-kind-eq-VRP.ensures, frame-vrp a.kept a.tables.now a.frame.now c.if-kind-eq-VRP.true) (tells_plain a.frame.now 4 c.if-kind-eq-VRP.true refl refl (c.vrp_frame.ensures _ (taken-records c.requires.1.four)))
-
-pub returns-then-kind-eq-VRP6 : goal.returns-then-kind-eq-VRP6
-returns-then-kind-eq-VRP6 c = let a = c.args in
-    rw (c.plain-then-kind-eq-VRP6.ensures, frame_vrp6 a.kept a.tables.now a.frame.now c.if-kind-eq-VRP6.true) (tells_plain a.frame.now 20 c.if-kind-eq-VRP6.true refl refl (c.vrp_frame-then-kind-eq-VRP6.ensures _ (taken-records c.requires.1.six)))
-
-pub returns-then-not-kept : goal.returns-then-not-kept
-returns-then-not-kept c = let a = c.args in
-    rw c.unreadable_frame.ensures (tells_unreadable a.frame.now (frame-no-session a.kept a.tables.now a.frame.now c.if-kind-eq-SESSION.false c.if-kind-eq-VRP.false c.if-kind-eq-VRP6.false (not-true _ c.if-not-kept.true)))
-
-pub slice_bounds-receipt_frame-end : goal.slice_bounds-receipt_frame-end
-slice_bounds-receipt_frame-end c = sym (length-take-le c.args.kept.used c.args.tables.now (omega (arith, c.requires.1.room, c.requires.1.four.within)))
+pub returns-in-Session : goal.returns-in-Session
+returns-in-Session c = let a = c.args in
+    let b = rw c.in-Session.is at c.in-Some.ensures in
+    rw (c.plain-in-Session.ensures, frame-session a.kept a.tables.now a.frame.now b) (tells_plain a.frame.now (rw b refl) (rw b refl) c.session_frame.ensures)
 
 pub receipt_frame-requires : goal.receipt_frame-requires
-receipt_frame-requires c = (ipv4-whole, subst (GoodTable ipv4) (sym (lent_4 c.requires.1)) c.requires.1.four.good, c.requires.2)
+receipt_frame-requires c = (rw (c.family.ensures, c.table_of.ensures) (kept-table c.requires.1 c.in-Receipt.ip).good, c.requires.2)
 
-pub returns-then-kind-eq-RECEIPT : goal.returns-then-kind-eq-RECEIPT
-returns-then-kind-eq-RECEIPT c = let a = c.args in
-    let e = c.if-kind-eq-RECEIPT.true in
-    rw (frame-receipt a.kept a.tables.now a.frame.now (not-false _ c.if-not-kept.false) e, ← lent_4 c.requires.1)
-    (tells_receipt a.frame.now e c.receipt_frame.ensures)
+pub returns-in-Some-session : goal.returns-in-Some-session
+returns-in-Some-session c = let a = c.args in
+    let w = c.in-Receipt.ip in
+    let b = rw c.in-Receipt.is at c.in-Some.ensures in
+    rw (frame-receipt a.kept a.tables.now a.frame.now c.in-Some-session.is w b, ← c.table_of.ensures) (tells-receipt a.frame.now w b (rw c.family.ensures at c.receipt_frame.ensures))
 
-pub slice_bounds-table-end : goal.slice_bounds-table-end
-slice_bounds-table-end c = omega (arith, c.requires.1.room, c.requires.1.six.within)
+pub returns-in-None : goal.returns-in-None
+returns-in-None c = let a = c.args in
+    let w = c.in-Receipt.ip in
+    let b = rw c.in-Receipt.is at c.in-Some.ensures in
+    rw c.dashed.ensures (tells-dashed a.frame.now w b (frame_no_receipt a.kept a.tables.now a.frame.now c.in-None.is w b))
 
-pub receipt_frame-requires-then-kind-eq-RECEIPT6 : goal.receipt_frame-requires-then-kind-eq-RECEIPT6
-receipt_frame-requires-then-kind-eq-RECEIPT6 c = (ipv6-whole, subst (GoodTable ipv6) (sym (lent_6 c.requires.1)) c.requires.1.six.good, c.requires.2)
+pub returns-in-Some-session-2 : goal.returns-in-Some-session-2
+returns-in-Some-session-2 c = let a = c.args in
+    let b = rw c.in-Sending.is at c.in-Some.ensures in
+    rw (c.plain-in-Some-session-2.ensures, frame-sending a.kept a.tables.now a.frame.now c.in-Some-session-2.is b) (tells_plain a.frame.now (rw b refl) (rw b refl) c.sending_frame.ensures)
 
-pub returns-then-kind-eq-RECEIPT6 : goal.returns-then-kind-eq-RECEIPT6
-returns-then-kind-eq-RECEIPT6 c = let a = c.args in
-    let e = c.if-kind-eq-RECEIPT6.true in
-    rw (frame_receipt6 a.kept a.tables.now a.frame.now (not-false _ c.if-not-kept.false) e, ← lent_6 c.requires.1)
-    (tells_receipt6 a.frame.now e c.receipt_frame-then-kind-eq-RECEIPT6.ensures)
+pub returns-in-None-session : goal.returns-in-None-session
+returns-in-None-session c = let a = c.args in
+    let b = rw c.in-Sending.is at c.in-Some.ensures in
+    rw c.plain-in-None-session.ensures
+    (tells_plain a.frame.now (rw b refl) (rw b refl) (replies-refused a.made.now (frame_no_sending a.kept a.tables.now a.frame.now c.in-None-session.is b)))
 
-pub returns-then-sends : goal.returns-then-sends
-returns-then-sends c = let a = c.args in
-    rw (c.plain-then-sends.ensures, frame_sending a.kept a.tables.now a.frame.now (not-false _ c.if-not-kept.false) c.if-sends.true) (tells_plain a.frame.now 3 c.if-sends.true refl refl c.sending_frame.ensures)
-
-pub returns : goal.returns
-returns c = let a = c.args in
-    rw c.unreadable_frame-2.ensures (tells_unreadable a.frame.now (frame_unknown a.kept a.tables.now a.frame.now c.if-kind-eq-SESSION.false c.if-kind-eq-VRP.false c.if-kind-eq-VRP6.false c.if-kind-eq-RECEIPT.false c.if-sends.false c.if-kind-eq-RECEIPT6.false))
+pub returns-in-Vrp : goal.returns-in-Vrp
+returns-in-Vrp c = let a = c.args in
+    let w = c.in-Vrp.ip in
+    let b = rw c.in-Vrp.is at c.in-Some.ensures in
+    rw (c.plain-in-Vrp.ensures, frame-vrp a.kept a.tables.now a.frame.now w b)
+    (tells-vrp a.frame.now w b ((rw c.family-in-Vrp.ensures at c.vrp_frame.ensures) _ (c.used_of.ensures ∙ taken-records (kept-table c.requires.1 w))))

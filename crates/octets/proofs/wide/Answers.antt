@@ -1,7 +1,6 @@
--- `wide` meets its contract: the byte itself, which is below 256.
-use mathlib.Core.Path.{refl}
+-- A byte widened is the same number, below 256.
 use native.Mathlib.Omega.{arith}
 use Rattle.octets.proofs.wide.Goals as goal
 
 pub returns : goal.returns
-returns c = (refl, omega arith)
+returns c = (c.from.ensures, omega (arith, c.from.ensures))

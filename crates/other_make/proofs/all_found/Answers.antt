@@ -5,53 +5,53 @@ use mathlib.Core.List.{List}
 use native.Mathlib.Omega.{arith}
 use lib.ListN.{length}
 use Prim.Native.Nat.{ℕ, ◌≤◌}
+use Rattle.std.specs.Prelude.{None}
 use Rattle.rules.specs.Attributes.{attributes, value_of, communities_type}
 use Rattle.rules.specs.Changes.{drop_from}
 use Rattle.rules.proofs.Readable.{read-good}
 use Rattle.rules.proofs.Dropping.{left}
+use Rattle.attributes.specs.declared.layout.Layout.{Layout}
 use Rattle.communities.specs.Tags.{drop_test}
+use Rattle.communities.specs.declared.tags.Dropping.TheVariants.{AllTags}
+use Rattle.rewriting.specs.Plan.{ReadBlock, LeftIn}
 use Rattle.rewriting.proofs.Planning.{left-value}
 use Rattle.rewriting.proofs.Thrown.{communities-found}
 use Rattle.policy.proofs.Readings.{has-found}
 use Rattle.other_make.proofs.Ours.{at_most, ours-turned, ours-tagged, ours-found}
 use Rattle.other_make.proofs.all_found.Goals as goal
 
-pub all_turned_found-turned-requires : goal.all_turned_found-turned-requires
-all_turned_found-turned-requires c =
-    let by_value : c.args.left ≡ length (drop_from (drop_test 0) (value_of communities_type (attributes c.args.block.now))) = c.requires.1 ∙ ap (λ (v : List ℕ). length (drop_from (drop_test 0) v)) (communities-found c.requires.0 refl) in
-    (c.requires.0.clean, by_value)
+-- How many bytes of communities are left, by the value and by the attributes.
+module _ {b : List ℕ} {l : Layout} {n : ℕ} (w : ReadBlock b l) (e : LeftIn b l AllTags n) where
+  by_value : n ≡ length (drop_from (drop_test AllTags) (value_of communities_type (attributes b)))
+  by_value = e ∙ ap (λ (v : List ℕ). length (drop_from (drop_test AllTags) v)) (communities-found w refl)
 
-pub returns-in_default : goal.returns-in_default
-returns-in_default c =
-    let by_value : c.args.left ≡ length (drop_from (drop_test 0) (value_of communities_type (attributes c.args.block.now))) = c.requires.1 ∙ ap (λ (v : List ℕ). length (drop_from (drop_test 0) v)) (communities-found c.requires.0 refl) in
-    let by_left : c.args.left ≡ length (left (drop_test 0) (attributes c.args.block.now)) = let b = c.args.block.now in
-    by_value ∙ ap length (sym (left-value (drop_test 0) (attributes b) ((read-good b c.requires.0.clean).1.once 16))) in
-    ours-turned (attributes c.args.sent.now) (attributes c.args.block.now) c.args.flags c.args.tag c.args.asn by_left refl
-    c.in_default.is c.all_turned_found-turned.ensures.0
+  by_left : n ≡ length (left (drop_test AllTags) (attributes b))
+  by_left = by_value ∙ ap length (sym (left-value (drop_test AllTags) (attributes b) ((read-good b w.clean).1.once 16)))
 
-pub returns-in_default-tagged : goal.returns-in_default-tagged
-returns-in_default-tagged c =
-    let by_value : c.args.left ≡ length (drop_from (drop_test 0) (value_of communities_type (attributes c.args.block.now))) = c.requires.1 ∙ ap (λ (v : List ℕ). length (drop_from (drop_test 0) v)) (communities-found c.requires.0 refl) in
-    let by_left : c.args.left ≡ length (left (drop_test 0) (attributes c.args.block.now)) = let b = c.args.block.now in
-    by_value ∙ ap length (sym (left-value (drop_test 0) (attributes b) ((read-good b c.requires.0.clean).1.once 16))) in
-    ours-tagged (attributes c.args.sent.now) (attributes c.args.block.now) c.args.flags c.args.tag c.args.asn by_left refl
-    c.in-All.is c.all_turned_found-turned.ensures.0 c.in_default-tagged.is c.new_tag_found-tagged.ensures.0
+pub all_turned_found-requires : goal.all_turned_found-requires
+all_turned_found-requires c = (c.requires.0.clean, by_value c.requires.0 c.requires.1)
+
+pub returns-in_err-old : goal.returns-in_err-old
+returns-in_err-old c = let a = c.args in
+    rw c.from_residual.ensures
+    (ours-turned (attributes a.sent.now) (attributes a.block.now) a.flags a.tag a.asn (by_left c.requires.0 c.requires.1) refl c.in_err-old.was c.all_turned_found.ensures.0)
+
+pub new_tag_found-requires : goal.new_tag_found-requires
+new_tag_found-requires c = omega (arith, at_most c.in_ok-old.was (length c.args.block.now) c.all_turned_found.ensures.1, c.requires.0.small)
+
+pub returns-in_err-with_tag : goal.returns-in_err-with_tag
+returns-in_err-with_tag c = let a = c.args in
+    rw c.from_residual-in_err-with_tag.ensures
+    (ours-tagged (attributes a.sent.now) (attributes a.block.now) a.flags a.tag a.asn (by_left c.requires.0 c.requires.1) refl
+    c.in_ok-old.was c.all_turned_found.ensures.0 c.in_err-with_tag.was c.new_tag_found.ensures.0)
 
 pub new_otc_found-requires : goal.new_otc_found-requires
 new_otc_found-requires c =
-    let few : c.in-All.old ≤ 4073 = omega (arith, at_most c.in-All.is (length c.args.block.now) c.all_turned_found-turned.ensures.1, c.requires.0.small) in
-    omega (arith, few, at_most c.in-All-tagged.is _ c.new_tag_found-tagged.ensures.1)
+    let few : c.in_ok-old.old ≤ 4073 = omega (arith, at_most c.in_ok-old.was (length c.args.block.now) c.all_turned_found.ensures.1, c.requires.0.small) in
+    omega (arith, few, at_most c.in_ok-with_tag.was _ c.new_tag_found.ensures.1)
 
 pub returns : goal.returns
-returns c =
-    let by_value : c.args.left ≡ length (drop_from (drop_test 0) (value_of communities_type (attributes c.args.block.now))) = c.requires.1 ∙ ap (λ (v : List ℕ). length (drop_from (drop_test 0) v)) (communities-found c.requires.0 refl) in
-    let by_left : c.args.left ≡ length (left (drop_test 0) (attributes c.args.block.now)) = let b = c.args.block.now in
-    by_value ∙ ap length (sym (left-value (drop_test 0) (attributes b) ((read-good b c.requires.0.clean).1.once 16))) in
-    ours-found (attributes c.args.sent.now) (attributes c.args.block.now) c.args.flags c.args.tag c.args.asn by_left
-    (c.otc_to_add-otc.ensures ∙ ap (λ (x : Bool). cond x 0 c.args.asn) (sym (has-found c.requires.0)))
-    c.in-All.is c.all_turned_found-turned.ensures.0 c.in-All-tagged.is c.new_tag_found-tagged.ensures.0 c.new_otc_found.result c.new_otc_found.ensures
-
-pub new_tag_found-tagged-requires : goal.new_tag_found-tagged-requires
-new_tag_found-tagged-requires c =
-    let few : c.in-All.old ≤ 4073 = omega (arith, at_most c.in-All.is (length c.args.block.now) c.all_turned_found-turned.ensures.1, c.requires.0.small) in
-    omega (arith, few)
+returns c = let a = c.args in
+    ours-found (attributes a.sent.now) (attributes a.block.now) a.flags a.tag a.asn (by_left c.requires.0 c.requires.1)
+    (c.otc_to_add-otc.ensures ∙ ap (λ (x : Bool). cond x None a.asn) (sym (has-found c.requires.0)))
+    c.in_ok-old.was c.all_turned_found.ensures.0 c.in_ok-with_tag.was c.new_tag_found.ensures.0 c.new_otc_found.result c.new_otc_found.ensures

@@ -9,12 +9,12 @@ use Rattle.rewriting.proofs.Thrown.{thrown-found, left-found}
 use Rattle.rewriting.proofs.store.Goals as goal
 
 pub make_plan-plan-requires : goal.make_plan-plan-requires
-make_plan-plan-requires c = (c.requires, left-found c.requires c.value.ensures c.args.test c.sift-sifted.ensures.0)
+make_plan-plan-requires c = (c.requires, left-found c.requires c.value.ensures c.args.dropping c.sift-sifted.ensures.0)
 
 pub returns-then-out-size : goal.returns-then-out-size
 unfolding told_output
 returns-then-out-size c =
-    let made : List Attribute = outgoing c.args.test c.args.flags c.args.tag c.args.asn c.args.block.now in
+    let made : List Attribute = outgoing c.args.dropping c.args.flags c.args.tag c.args.asn c.args.block.now in
     let p = c.make_plan-plan.ensures in
     let q = stands_size p in
     (no_room_lem made c.args.out.now (omega (arith, q, c.if-out-size.true)), tt)
@@ -22,7 +22,7 @@ returns-then-out-size c =
 pub returns-then-most-size : goal.returns-then-most-size
 unfolding told_output
 returns-then-most-size c =
-    let made : List Attribute = outgoing c.args.test c.args.flags c.args.tag c.args.asn c.args.block.now in
+    let made : List Attribute = outgoing c.args.dropping c.args.flags c.args.tag c.args.asn c.args.block.now in
     let p = c.make_plan-plan.ensures in
     let q = stands_size p in
     (too_long_lem made c.args.out.now (omega (arith, q, c.if-out-size.false)) (omega (arith, q, c.if-most-size.true)), tt)
@@ -30,7 +30,7 @@ returns-then-most-size c =
 pub returns : goal.returns
 unfolding told_output
 returns c =
-    let made : List Attribute = outgoing c.args.test c.args.flags c.args.tag c.args.asn c.args.block.now in
+    let made : List Attribute = outgoing c.args.dropping c.args.flags c.args.tag c.args.asn c.args.block.now in
     let p = c.make_plan-plan.ensures in
     let q = stands_size p in (
       stored-whole made c.args.out.now (omega (arith, q, c.if-out-size.false)) (omega (arith, q, c.if-most-size.false)) (rw p.is at c.write.ensures),

@@ -1,13 +1,9 @@
--- A valid session's remote AS is not 0.
-use native.Mathlib.Omega.{arith}
+-- From above or across, the remote AS.
 use Rattle.rules.specs.Roles.{remote_role}
 use Rattle.rules.specs.Receipt.{otc_received}
-use Rattle.rules.proofs.Roles.{session_ases}
+use Rattle.verdicts.proofs.Judging.{otc_if}
 use Rattle.verdicts.proofs.received_otc.Goals as goal
-
-pub otc_if-requires : goal.otc_if-requires
-otc_if-requires c = let h = session_ases _ c.requires in omega arith
 
 pub returns : goal.returns
 unfolding otc_received remote_role
-returns c = simp (c.otc_if.ensures, c.is_up.ensures, c.remote_role-from.ensures)
+returns c = rw (c.then_some.ensures, ← c.remote_role-from.ensures, ← c.is_up.ensures) (otc_if c.is_up.result c.args.session.remote_as)

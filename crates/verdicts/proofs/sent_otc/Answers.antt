@@ -1,13 +1,9 @@
--- A valid session's local AS is not 0.
-use native.Mathlib.Omega.{arith}
+-- Towards a Customer, a Peer or an RS-Client, the local AS.
 use Rattle.rules.specs.Roles.{remote_role}
 use Rattle.rules.specs.Sending.{otc_sent}
-use Rattle.rules.proofs.Roles.{session_ases}
+use Rattle.verdicts.proofs.Judging.{otc_if}
 use Rattle.verdicts.proofs.sent_otc.Goals as goal
-
-pub otc_if-requires : goal.otc_if-requires
-otc_if-requires c = let h = session_ases _ c.requires in omega arith
 
 pub returns : goal.returns
 unfolding otc_sent remote_role
-returns c = simp (c.otc_if.ensures, c.one_of_three-marked.ensures, c.remote_role-to.ensures)
+returns c = rw (c.then_some.ensures, ← c.remote_role-to.ensures, ← c.one_of_three-marked.ensures) (otc_if c.one_of_three-marked.result c.args.session.local_as)

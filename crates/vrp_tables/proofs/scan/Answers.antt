@@ -1,34 +1,40 @@
--- `scan` meets its contract, by the laws of a scan at the width handed in. The loop's invariant is that of a scan that has come to `at`.
-use mathlib.Core.Path.{refl, ◌∙◌}
-use mathlib.Core.Bool.{or-true, or-false}
+-- `scan` meets its contract, by the laws of a scan.
+use mathlib.Core.Path.{◌∙◌}
 use native.Mathlib.Omega.{arith}
-use borrow.Author.Tests.{eq-eqb, ne_eqb}
-use Rattle.rules.specs.Origin.{vrp_size}
-use Rattle.octets.proofs.Slices.{part_length}
-use Rattle.vrp_tables.proofs.Scans.{scan_start, scan_end, scan_good, scan_matches, scan_past}
+use Rattle.std.specs.Slice.Iter.{chunks_exact_rest}
+use Rattle.vrp_tables.proofs.Scans.{scan_start, scan_end, scan_good, scan_matches, scan_covers, scan_apart}
 use Rattle.vrp_tables.proofs.scan.Goals as goal
-use Rattle.vrp_tables.proofs.scan.Goals.{then-met-eq-COVERS, else-met-eq-COVERS}
 
-pub loop-at-init : goal.loop-at-init
-loop-at-init c = scan_start c.requires.1
+pub loop-record-init : goal.loop-record-init
+loop-record-init c = let records = c.chunks_exact-records.ensures in
+    (records.size ∙ c.record_size.ensures.0, omega (arith, records.size), scan_start records.rest c.requires)
 
 pub weigh-met-requires : goal.weigh-met-requires
-unfolding vrp_size
-weigh-met-requires c = (c.requires.0, part_length c.args.table.now c.loop-at.at (vrp_size c.args.width) (omega arith), scan_good c.loop-at.invariant (omega arith))
+weigh-met-requires c = let i = c.loop-record.invariant in
+    let next = c.in-Some.ensures.steps.1 in
+    (next.1 ∙ i.0, scan_good i.2 c.in-Some.record.now (chunks_exact_rest c.next.new.self) next.0 (next.1 ∙ i.0))
 
-pub loop-at-preserved : goal.loop-at-preserved
-unfolding vrp_size
-loop-at-preserved c = scan_past c.loop-at.invariant (omega arith) c.weigh-met.ensures c.if-met-eq-MATCHES.false
-    (elim c.if-met-eq-COVERS.branch [ then-met-eq-COVERS w ↦ w.covered-is ∙ rw (eq-eqb _ 1 w.if-met-eq-COVERS.true, or-true) refl | else-met-eq-COVERS w ↦ w.covered-is ∙ rw (ne_eqb _ 1 w.if-met-eq-COVERS.false, or-false) refl ])
+pub returns-in-Matches : goal.returns-in-Matches
+returns-in-Matches c = let i = c.loop-record.invariant in
+    let next = c.in-Some.ensures.steps.1 in
+    scan_matches i.2 c.in-Some.record.now (chunks_exact_rest c.next.new.self) next.0 (next.1 ∙ i.0) c.weigh-met.ensures c.in-Matches.is
+
+pub loop-record-preserved-in-Covers : goal.loop-record-preserved-in-Covers
+loop-record-preserved-in-Covers c = let i = c.loop-record.invariant in
+    let next = c.in-Some.ensures.steps.1 in
+    let same = c.in-Some.ensures.steps.0 in
+    (same ∙ i.0, omega (arith, same, i.1), scan_covers i.2 c.in-Some.record.now (chunks_exact_rest c.next.new.self) next.0 (next.1 ∙ i.0) c.weigh-met.ensures c.in-Covers.is)
+
+pub loop-record-preserved : goal.loop-record-preserved
+loop-record-preserved c = let i = c.loop-record.invariant in
+    let next = c.in-Some.ensures.steps.1 in
+    let same = c.in-Some.ensures.steps.0 in
+    (same ∙ i.0, omega (arith, same, i.1), scan_apart i.2 c.in-Some.record.now (chunks_exact_rest c.next.new.self) next.0 (next.1 ∙ i.0) c.weigh-met.ensures c.in-Apart.is)
 
 pub returns-then-covered : goal.returns-then-covered
-unfolding vrp_size
-returns-then-covered c = rw c.if-covered.true at (scan_end c.loop-at.invariant c.if-table-at.true)
+returns-then-covered c = let i = c.loop-record.invariant in
+    rw c.if-covered.true at (scan_end i.2 (omega (arith, i.0, c.in_default.ensures.steps.1.0)))
 
 pub returns-else-covered : goal.returns-else-covered
-unfolding vrp_size
-returns-else-covered c = rw c.if-covered.false at (scan_end c.loop-at.invariant c.if-table-at.true)
-
-pub returns-then-met-eq-MATCHES : goal.returns-then-met-eq-MATCHES
-unfolding vrp_size
-returns-then-met-eq-MATCHES c = scan_matches c.loop-at.invariant (omega arith) c.weigh-met.ensures c.if-met-eq-MATCHES.true
+returns-else-covered c = let i = c.loop-record.invariant in
+    rw c.if-covered.false at (scan_end i.2 (omega (arith, i.0, c.in_default.ensures.steps.1.0)))

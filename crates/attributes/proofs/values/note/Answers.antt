@@ -9,7 +9,4 @@ pub returns : goal.returns
 unfolding attribute
 returns c = let a = c.args.a.now in
     let h = c.header_size-from in
-    let r = c.note_value.ensures in (
-      rw (drop-drop (length_bytes (get_or a 0 0)) 2 a, ← h.ensures, ← tail_is a h.result) r.0,
-      r.1,
-    )
+    rw (drop-drop (length_bytes (get_or a 0 0)) 2 a, ← h.ensures, ← tail_is a h.result) c.note_value.ensures

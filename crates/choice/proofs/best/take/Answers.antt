@@ -17,9 +17,9 @@ returns-in_default c =
 
 pub meet-requires : goal.meet-requires
 unfolding left_in
-meet-requires c = rw c.in-Route.is at c.requires.1
+meet-requires c = rw c.in-Some.is at c.requires.1
 
 pub returns : goal.returns
 returns c =
     let it : Candidate = record { block = c.args.block.now; state = c.args.offer.state; identifier = c.args.offer.identifier; address = c.args.offer.address } in
-    taken_next _ _ _ _ it c.requires.0 c.removed.ensures c.if-removed.false c.rank_of-rank.ensures c.keys_of-keys.ensures c.in-Route.is c.meet.ensures
+    taken_next _ _ _ _ it c.requires.0 c.removed.ensures c.if-removed.false c.rank_of-rank.ensures c.keys_of-keys.ensures c.in-Some.is c.meet.ensures

@@ -8,16 +8,16 @@ use Rattle.communities.specs.Tags.{drop_test, kept}
 use Rattle.communities.proofs.Dropped.{kept-none, kept_whole}
 use Rattle.communities.proofs.left.put_kept.Goals as goal
 
-pub returns-then-is_dropped : goal.returns-then-is_dropped
-returns-then-is_dropped c = stored-none _ _ (kept-none _ c.args.c.now (sym c.is_dropped.ensures ∙ c.if-is_dropped.true))
+pub returns-then-drops : goal.returns-then-drops
+returns-then-drops c = stored-none _ _ (kept-none _ c.args.c.now (sym c.drops.ensures ∙ c.if-drops.true))
 
 pub put-requires : goal.put-requires
 put-requires c =
-    let whole : kept (drop_test c.args.test) c.args.c.now ≡ c.args.c.now = kept_whole _ _ (sym c.is_dropped.ensures ∙ c.if-is_dropped.false) in
+    let whole : kept (drop_test c.args.dropping) c.args.c.now ≡ c.args.c.now = kept_whole _ _ (sym c.drops.ensures ∙ c.if-drops.false) in
     omega (arith, c.requires.1, ap length whole)
 
 pub returns : goal.returns
 unfolding read_from
 returns c =
-    let whole : kept (drop_test c.args.test) c.args.c.now ≡ c.args.c.now = kept_whole _ _ (sym c.is_dropped.ensures ∙ c.if-is_dropped.false) in
+    let whole : kept (drop_test c.args.dropping) c.args.c.now ≡ c.args.c.now = kept_whole _ _ (sym c.drops.ensures ∙ c.if-drops.false) in
     rw (whole, ← read_all c.args.c.now 8 c.requires.0) c.put.ensures

@@ -55,7 +55,7 @@ keep_frame-kept-requires c =
     let frame-within : half ≤ length c.read_line.new.raw = omega (arith, c.read_line.ensures.within readable, c.read_line.auto.raw, c.requires.2.frame) in
     let frame-length : half ≡ length frame = sym (length-take-le half c.read_line.new.raw frame-within) in
     let frame-some : 1 ≤ length frame = omega (arith, c.read_line.ensures.some readable, frame-length) in
-    (frame-some, c.requires.1, reply_agrees c.answer_frame-outcome.ensures.replies c.is_done.ensures)
+    (frame-some, c.requires.1, reply_agrees c.answer_frame-outcome.ensures.replies c.is_ok.ensures.value)
 
 pub returns : goal.returns
 returns c =

@@ -1,12 +1,11 @@
 -- `sending_frame` meets its contract.
-use mathlib.Core.Path.{sym, ap}
+use mathlib.Core.Path.{sym}
 use native.Mathlib.Omega.{arith}
 use lib.ListN.{drop}
 use lib.Seq.{length-take-le}
-use Rattle.rules.specs.Answers.{told_advertised}
 use Rattle.rules.specs.Settings.{block_max}
 use Rattle.octets.proofs.Slices.{tail_is}
-use Rattle.frames.proofs.Framing.{sending_short, sending_refused, sending_done}
+use Rattle.frames.proofs.Framing.{sending_short, sending_told}
 use Rattle.frames.proofs.kinds.sending_frame.Goals as goal
 
 pub returns-then-frame-lt-SENDING_MIN : goal.returns-then-frame-lt-SENDING_MIN
@@ -16,12 +15,6 @@ returns-then-frame-lt-SENDING_MIN c = let a = c.args in
 pub slice_bounds-send_write-end-3 : goal.slice_bounds-send_write-end-3
 slice_bounds-send_write-end-3 c = sym (length-take-le block_max c.args.made.now (omega (arith, c.requires)))
 
-pub returns-in-Refused : goal.returns-in-Refused
-unfolding told_advertised
-returns-in-Refused c = let a = c.args in
-    sending_refused a.session a.frame.now _ c.if-frame-lt-SENDING_MIN.false (tail_is a.frame.now 3) (length-take-le block_max a.made.now (omega (arith, c.requires))) c.send_write-sent.ensures (ap told_advertised c.in-Refused.is)
-
-pub returns-in-Block : goal.returns-in-Block
-unfolding told_advertised
-returns-in-Block c = let a = c.args in
-    sending_done a.session a.frame.now (drop block_max a.made.now) c.if-frame-lt-SENDING_MIN.false (tail_is a.frame.now 3) (length-take-le block_max a.made.now (omega (arith, c.requires))) c.send_write-sent.ensures (ap told_advertised c.in-Block.is)
+pub returns : goal.returns
+returns c = let a = c.args in
+    sending_told a.session a.frame.now (drop block_max a.made.now) c.if-frame-lt-SENDING_MIN.false (tail_is a.frame.now 3) (length-take-le block_max a.made.now (omega (arith, c.requires))) _ c.send_write.ensures

@@ -16,7 +16,7 @@ grow-requires c = let g = c.loop-made.invariant in
 pub loop-made-preserved : goal.loop-made-preserved
 loop-made-preserved c = let a = c.args in
     extending_next c.loop-made.invariant c.loop-made-test.true
-    (c.bit.ensures.0 ∙ next_bit a.prefix a.len (a.left - c.loop-made.made) (omega arith) (omega arith) (omega arith)) (omega arith)
+    (c.bit.ensures.0 ∙ next_bit a.prefix a.len (a.len - (a.left - c.loop-made.made)) (a.left - c.loop-made.made) (omega arith) (omega arith) (omega arith)) (omega arith)
     c.grow.ensures
 
 pub shape_of-memory : goal.shape_of-memory

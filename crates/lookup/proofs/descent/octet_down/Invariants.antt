@@ -5,6 +5,3 @@ use Rattle.lookup.proofs.descent.octet_down.Given as goal
 
 abbrev pub invariant-loop-k : goal.invariant-loop-k
 invariant-loop-k l = Descended l.memory l.len l.asn l.octet l.left l.node l.seen (l.left - l.k) l.here l.so_far × (l.k ≤ 8) × (0 < l.here)
-
-abbrev pub decreases-loop-k : goal.decreases-loop-k
-decreases-loop-k l = 8 - l.k

@@ -1,7 +1,6 @@
 -- `count` meets its contract. The loop's invariant: those passed and those to come are all.
-use Prim.Native.Nat.{◌+◌}
 use native.Mathlib.Omega.{arith}
-use Rattle.other_make.proofs.Walks.{Counting, counting_start, counting_torn, counting_next, counting_end}
+use Rattle.other_make.proofs.Walks.{counting_start, counting_torn, counting_next, counting_end}
 use Rattle.other_make.proofs.parts.count.Goals as goal
 
 pub loop-at-init : goal.loop-at-init
@@ -10,25 +9,22 @@ loop-at-init c = counting_start c.args.block.now
 pub returns-then-n-eq0 : goal.returns-then-n-eq0
 returns-then-n-eq0 c = counting_torn c.loop-at.invariant c.attribute_size-n.ensures.is c.loop-at-test.true c.if-n-eq0.true
 
-pub overflow_add-so_far : goal.overflow_add-so_far
-overflow_add-so_far c =
-    let next : Counting c.args.block.now (c.loop-at.at + c.attribute_size-n.result) (c.loop-at.so_far + 1) = counting_next c.loop-at.invariant c.attribute_size-n.ensures.is c.if-n-eq0.false (c.attribute_size-n.ensures.within c.if-n-eq0.false) in
+pub overflow_add-passed : goal.overflow_add-passed
+overflow_add-passed c =
+    let next = counting_next c.loop-at.invariant c.attribute_size-n.ensures c.if-n-eq0.false in
     omega (arith, next.few, next.within)
 
 pub loop-at-preserved : goal.loop-at-preserved
 loop-at-preserved c =
-    let next : Counting c.args.block.now (c.loop-at.at + c.attribute_size-n.result) (c.loop-at.so_far + 1) = counting_next c.loop-at.invariant c.attribute_size-n.ensures.is c.if-n-eq0.false (c.attribute_size-n.ensures.within c.if-n-eq0.false) in
-    next
+    counting_next c.loop-at.invariant c.attribute_size-n.ensures c.if-n-eq0.false
 
 pub returns : goal.returns
 returns c = counting_end c.loop-at.invariant (omega (arith, c.loop-at-test.false))
 
 pub overflow_add-at : goal.overflow_add-at
 overflow_add-at c =
-    let next : Counting c.args.block.now (c.loop-at.at + c.attribute_size-n.result) (c.loop-at.so_far + 1) = counting_next c.loop-at.invariant c.attribute_size-n.ensures.is c.if-n-eq0.false (c.attribute_size-n.ensures.within c.if-n-eq0.false) in
-    omega (arith, next.within)
+    omega (arith, (counting_next c.loop-at.invariant c.attribute_size-n.ensures c.if-n-eq0.false).within)
 
 pub loop-at-smaller : goal.loop-at-smaller
 loop-at-smaller c =
-    let next : Counting c.args.block.now (c.loop-at.at + c.attribute_size-n.result) (c.loop-at.so_far + 1) = counting_next c.loop-at.invariant c.attribute_size-n.ensures.is c.if-n-eq0.false (c.attribute_size-n.ensures.within c.if-n-eq0.false) in
-    omega (arith, next.within)
+    omega (arith, (counting_next c.loop-at.invariant c.attribute_size-n.ensures c.if-n-eq0.false).within)

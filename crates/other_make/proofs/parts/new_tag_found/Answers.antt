@@ -7,6 +7,7 @@ use borrow.Author.Tests.{eq-eqb, ne_eqb, le-leb, lt-leb}
 use Rattle.rules.specs.Attributes.{attributes, communities_type}
 use Rattle.rules.specs.Changes.{tag, new_attribute}
 use Rattle.rules.proofs.Communities.{drop_nil}
+use Rattle.communities.specs.declared.tags.Dropping.TheVariants.{AllTags}
 use Rattle.communities.specs.Tags.{drop_test}
 use Rattle.communities.proofs.Told.{tag-told}
 use Rattle.rewriting.specs.Plan.{new_tags}
@@ -26,5 +27,5 @@ pub returns : goal.returns
 unfolding new_tags new_attribute tag
 returns c = let theirs = attributes c.args.sent.now in
     rw (eq-eqb c.args.left 0 c.if-left-ne0.false, le-leb c.args.state 2 (omega (arith, c.if-state-gt-INVALID.false)))
-    (finds_one theirs c.args.so_far (new_attribute c.args.flags communities_type (tag c.args.state)) c.with_one.ensures
-    (c.look_up_left.ensures ∙ looked-form theirs _ _ refl refl (rw (drop_nil (drop_test 0)) (tag-told c.args.state (omega (arith, c.if-state-gt-INVALID.false))))))
+    (finds_one theirs c.args.so_far (new_attribute c.args.flags communities_type (tag c.args.state)) c.then_some.ensures
+    (c.look_up_left.ensures ∙ looked-form theirs _ _ refl refl (rw (drop_nil (drop_test AllTags)) (tag-told c.args.state (omega (arith, c.if-state-gt-INVALID.false))))))

@@ -14,7 +14,7 @@ returns-then-kind-ne-COMMUNITIES c =
     let other : is_type communities_type ours ≡ false = ne_eqb _ _ c.if-kind-ne-COMMUNITIES.true in
     let theirs = attributes c.args.sent.now in
     rw (looked-other-type theirs c.args.state ours other)
-    (finds_one theirs c.args.so_far ours c.with_one.ensures (c.look_up.ensures ∙ looked-form theirs _ ours refl refl c.value_of.ensures))
+    (finds_one theirs c.args.so_far ours c.then_some.ensures (c.look_up.ensures ∙ looked-form theirs _ ours refl refl c.value_of.ensures))
 
 pub returns-then-left-eq0 : goal.returns-then-left-eq0
 unfolding is_type attribute
@@ -31,5 +31,5 @@ returns c =
     let theirs = attributes c.args.sent.now in
     let k = communities in
     rw (turned_left theirs c.args.state ours k c.requires.1 c.if-left-eq0.false)
-    (finds_one theirs c.args.so_far _ c.with_one-2.ensures
+    (finds_one theirs c.args.so_far _ c.then_some-2.ensures
     ((rw c.value_of-2.ensures at c.look_up_left.ensures) ∙ looked-left theirs c.args.state ours k c.requires.1))

@@ -5,9 +5,9 @@ use Rattle.rules.specs.Bytes.{bytes4}
 use Rattle.rewriting.proofs.Pieces.{new_otc-none, new_otc-is}
 use Rattle.rewriting.proofs.planner.new_otc_size.Goals as goal
 
-pub returns-then-asn-eq0 : goal.returns-then-asn-eq0
-returns-then-asn-eq0 c = (λ f. rw (new_otc-none f c.args.asn c.if-asn-eq0.true) refl, omega arith)
-
-pub returns : goal.returns
+pub returns-in-Some : goal.returns-in-Some
 unfolding bytes4
-returns c = (λ f. rw (new_otc-is f c.args.asn c.if-asn-eq0.false) refl, omega arith)
+returns-in-Some c = (λ f. rw (new_otc-is f c.in-Some.is) refl, omega arith)
+
+pub returns-in-None : goal.returns-in-None
+returns-in-None c = (λ f. rw (new_otc-none f c.in-None.is) refl, omega arith)

@@ -29,7 +29,7 @@ returns-then-to-communities c = let a = c.args in
 pub put-start-requires : goal.put-start-requires
 put-start-requires c =
     let Front : List ℕ = take (c.args.plan.communities - c.args.from) (drop c.args.from c.args.block.now) in
-    let Item : List ℕ = community_bytes (drop_test c.args.plan.test) c.args.plan.tag
+    let Item : List ℕ = community_bytes (drop_test c.args.plan.dropping) c.args.plan.tag
     (take (c.args.plan.rest - c.args.plan.communities) (drop c.args.plan.communities c.args.block.now)) in
     let Back : List ℕ = take (c.args.to - c.args.plan.rest) (drop c.args.plan.rest c.args.block.now) in
     let Goal : List ℕ = piece c.args.block.now c.args.plan c.args.from c.args.to in
@@ -41,7 +41,7 @@ put-start-requires c =
 pub put_community-end-requires : goal.put_community-end-requires
 unfolding item part
 put_community-end-requires c =
-    let Item : List ℕ = community_bytes (drop_test c.args.plan.test) c.args.plan.tag
+    let Item : List ℕ = community_bytes (drop_test c.args.plan.dropping) c.args.plan.tag
     (take (c.args.plan.rest - c.args.plan.communities) (drop c.args.plan.communities c.args.block.now)) in
     let Back : List ℕ = take (c.args.to - c.args.plan.rest) (drop c.args.plan.rest c.args.block.now) in
     let Goal : List ℕ = piece c.args.block.now c.args.plan c.args.from c.args.to in
@@ -68,7 +68,7 @@ pub put-requires-2 : goal.put-requires-2
 put-requires-2 c =
     let Goal : List ℕ = piece c.args.block.now c.args.plan c.args.from c.args.to in
     let Front : List ℕ = take (c.args.plan.communities - c.args.from) (drop c.args.from c.args.block.now) in
-    let Item : List ℕ = community_bytes (drop_test c.args.plan.test) c.args.plan.tag
+    let Item : List ℕ = community_bytes (drop_test c.args.plan.dropping) c.args.plan.tag
     (take (c.args.plan.rest - c.args.plan.communities) (drop c.args.plan.communities c.args.block.now)) in
     let Back : List ℕ = take (c.args.to - c.args.plan.rest) (drop c.args.plan.rest c.args.block.now) in
     let begin : Writing c.args.out.now c.args.at Goal c.args.out.now c.args.at (Front ++ (Item ++ Back)) = writing-rest (writing_start c.args.out.now c.args.at Goal c.requires.4)
@@ -79,7 +79,7 @@ pub returns : goal.returns
 returns c =
     let Goal : List ℕ = piece c.args.block.now c.args.plan c.args.from c.args.to in
     let Front : List ℕ = take (c.args.plan.communities - c.args.from) (drop c.args.from c.args.block.now) in
-    let Item : List ℕ = community_bytes (drop_test c.args.plan.test) c.args.plan.tag
+    let Item : List ℕ = community_bytes (drop_test c.args.plan.dropping) c.args.plan.tag
     (take (c.args.plan.rest - c.args.plan.communities) (drop c.args.plan.communities c.args.block.now)) in
     let Back : List ℕ = take (c.args.to - c.args.plan.rest) (drop c.args.plan.rest c.args.block.now) in
     let begin : Writing c.args.out.now c.args.at Goal c.args.out.now c.args.at (Front ++ (Item ++ Back)) = writing-rest (writing_start c.args.out.now c.args.at Goal c.requires.4)

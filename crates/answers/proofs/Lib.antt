@@ -1,2 +1,0 @@
--- Laws of an answer as numbers.
-pub mod Numbering

@@ -1,0 +1,2 @@
+-- How the code takes an AS_PATH apart.
+pub mod Splitting

@@ -1,7 +1,0 @@
--- `c_api::bgp_index_insert` meets its contract: what `index` promises, as numbers.
-use Rattle.rules.specs.Index.{told_indexed}
-use Rattle.c_api.proofs.vrp_index.bgp_index_insert.Goals as goal
-
-pub returns : goal.returns
-returns c = let d = c.insert-answer in
-    record { told = told_indexed d.result; promised = d.ensures; numbers = c.report_indexed.ensures }
