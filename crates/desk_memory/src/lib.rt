@@ -52,15 +52,23 @@ pub fn answer_frame(kept: Kept, tables: &[u8], frame: &[u8], made: &mut [u8]) ->
     match kind {
         Kind::Session => plain(session_frame(frame, made)),
         Kind::Receipt(ip) => match kept.session {
-            Some(session) => {
-                receipt_frame(
-                    ip.family(),
+            // A call for each family, so that the walk of its table knows the size of a record.
+            Some(session) => match ip {
+                Ip::V4 => receipt_frame(
+                    Ip::V4.family(),
                     session,
-                    table_of(kept, tables, ip),
+                    table_of(kept, tables, Ip::V4),
                     frame,
                     made,
-                )
-            }
+                ),
+                Ip::V6 => receipt_frame(
+                    Ip::V6.family(),
+                    session,
+                    table_of(kept, tables, Ip::V6),
+                    frame,
+                    made,
+                ),
+            },
             None => dashed(Refusal::Unreadable),
         },
         Kind::Sending => match kept.session {

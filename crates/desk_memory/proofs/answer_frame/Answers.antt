@@ -21,13 +21,17 @@ returns-in-Session c = let a = c.args in
     rw (c.plain-in-Session.ensures, frame-session a.kept a.tables.now a.frame.now b) (tells_plain a.frame.now (rw b refl) (rw b refl) c.session_frame.ensures)
 
 pub receipt_frame-requires : goal.receipt_frame-requires
-receipt_frame-requires c = (rw (c.family.ensures, c.table_of.ensures) (kept-table c.requires.1 c.in-Receipt.ip).good, c.requires.2)
+receipt_frame-requires c = (rw (c.family.ensures, c.table_of.ensures) (kept-table c.requires.1 V4).good, c.requires.2)
 
-pub returns-in-Some-session : goal.returns-in-Some-session
-returns-in-Some-session c = let a = c.args in
-    let w = c.in-Receipt.ip in
-    let b = rw c.in-Receipt.is at c.in-Some.ensures in
-    rw (frame-receipt a.kept a.tables.now a.frame.now c.in-Some-session.is w b, ← c.table_of.ensures) (tells-receipt a.frame.now w b (rw c.family.ensures at c.receipt_frame.ensures))
+pub returns-in-V4 : goal.returns-in-V4
+returns-in-V4 c = let a = c.args in
+    let b = rw (c.in-Receipt.is, c.in-V4.is) at c.in-Some.ensures in
+    rw (frame-receipt a.kept a.tables.now a.frame.now c.in-Some-session.is V4 b, ← c.table_of.ensures) (tells-receipt a.frame.now V4 b (rw c.family.ensures at c.receipt_frame.ensures))
+
+pub returns-in-V6 : goal.returns-in-V6
+returns-in-V6 c = let a = c.args in
+    let b = rw (c.in-Receipt.is, c.in-V6.is) at c.in-Some.ensures in
+    rw (frame-receipt a.kept a.tables.now a.frame.now c.in-Some-session.is V6 b, ← c.table_of-in-V6.ensures) (tells-receipt a.frame.now V6 b (rw c.family-in-V6.ensures at c.receipt_frame-in-V6.ensures))
 
 pub returns-in-None : goal.returns-in-None
 returns-in-None c = let a = c.args in
