@@ -1,9 +1,7 @@
 -- Handing a piece over, from feed to feed: nothing of it, some of it, a write that fails, and all of it. A machine that begins is ready.
 use Prim.Native.Nat.{ℕ, ◌+◌, ◌-◌, ◌≤◌}
 use mathlib.Core.Path.{◌≡◌, refl, sym, subst}
-use mathlib.Core.Bool.{false≢true}
-use Rattle.std.specs.Prelude.{Result, Ok, Err}
-use Rattle.std.specs.Result.{IsErr}
+use Rattle.std.specs.Prelude.{Ok, Err}
 use native.Mathlib.Omega.{arith}
 use mathlib.Core.List.{List}
 use lib.ListN.{length, take, drop}
@@ -42,16 +40,14 @@ module _ {s s' : State} {t l x t' l' : List ℕ} {at : ℕ} (H : Handing s t l x
       })
 
   -- A write failed.
-  pub handing_broken : {E : Type 0} (r : Result State E) → IsErr r → HandedOver s t l x r t' l'
-  handing_broken (Ok z) e = absurd (false≢true e)
-  handing_broken (Err z) e = record { state = s'; whole = tt; ready = H.consumed.ready; empty = H.empty }
+  pub handing_broken : HandedOver s t l x (Err s') t' l'
+  handing_broken = record { whole = tt; ready = H.consumed.ready; empty = H.empty }
 
   -- The whole piece is consumed.
-  pub handing_end : {E : Type 0} → length x ≤ at → HandedOver {E = E} s t l x (Ok s') t' l'
+  pub handing_end : length x ≤ at → HandedOver s t l x (Ok s') t' l'
   handing_end h =
       record {
-        state = s';
-        whole = (refl, subst (λ (p : List ℕ). Consumed s t l p s' t' l') (take_all at x h) H.consumed);
+        whole = subst (λ (p : List ℕ). Consumed s t l p s' t' l') (take_all at x h) H.consumed;
         ready = H.consumed.ready;
         empty = H.empty;
       }

@@ -13,7 +13,6 @@ use desk_lines::{begin, feed, finish};
 use desk_memory::sizes::TABLES_MAX;
 use frames::sizes::RESULT_MAX;
 use input_lines::HELD_MAX;
-use std::io;
 use std::io::{Print, Read};
 
 // The bytes that are read, and written, at once at most.
@@ -29,7 +28,8 @@ fn emptied(state: State) -> State
     State { wrote: 0, ..state }
 }
 
-// Hands a piece over, writes what it says, and gives the state after it, with nothing left to write. A write that fails ends it.
+// Hands a piece over, writes what it says, and gives the state after it, with nothing left to write. A write that fails ends it, with the
+// state after what was fed.
 fn hand_over(
     piece: &[u8],
     state: State,
@@ -39,7 +39,7 @@ fn hand_over(
     tables: &mut [u8],
     out: &mut [u8],
     to: &impl Print,
-) -> io::Result<State>
+) -> Result<State, State>
     requires { (Ready state tables.old line.old) × (state.number + length piece.now < 2 ^ 64)
         × (Lent raw.old made.old out.old answer_max) × (state.wrote ≡ 0) }
     ensures { HandedOver state tables.old line.old piece.now result tables.new line.new }
@@ -52,7 +52,9 @@ fn hand_over(
         at += progress.taken;
         let after = progress.state;
         now = emptied(after);
-        to.write_all(&out[..after.wrote])?;
+        if to.write_all(&out[..after.wrote]).is_err() {
+            return Err(now);
+        }
     }
     Ok(now)
 }

@@ -1,6 +1,6 @@
 -- The byte machine: what it still owes, and what each call promises. "What has been written plus what the rest of the input will
 -- give equals the definition of the whole input."
-use Rattle.std.specs.Prelude.{ℕ, suc, ◌+◌, ◌≤◌, ◌<◌, ◌≡◌, List, [], ◌∷◌, ◌++◌, length, take, Result, None}
+use Rattle.std.specs.Prelude.{ℕ, suc, ◌+◌, ◌≤◌, ◌<◌, ◌≡◌, List, [], ◌∷◌, ◌++◌, length, take, Result, Ok, Err, None}
 use Rattle.std.specs.Result.{IfOk}
 use Rattle.rules.specs.Answers.{Answer, answer_number}
 use Rattle.rules.specs.Text.{lines, said_from, space, decimal}
@@ -102,13 +102,16 @@ pub record Progressed (s : State) (tables line out piece : List ℕ) (r : Progre
 abbrev pub emptied : State → State
 emptied s = record { number = s.number; held = s.held; wrote = 0; kept = s.kept }
 
--- What handing a piece over promises: the machine is ready, with nothing left to write; where all was written, its state is handed back,
--- and the whole piece is consumed.
-pub record HandedOver {E : Type 0} (s : State) (tables line piece : List ℕ) (handed : Result State E) (tables' line' : List ℕ) : Type 0 where
-  pub state : State
-  pub whole : IfOk handed (λ s'. (s' ≡ state) × Consumed s tables line piece state tables' line')
-  pub ready : Ready state tables' line'
-  pub empty : state.wrote ≡ 0
+-- The state that handing a piece over gives, whether all was written or not.
+abbrev pub handed_state : Result State State → State
+handed_state (Ok s) = s
+handed_state (Err s) = s
+
+-- What handing a piece over promises: the machine is ready, with nothing left to write; where all was written, the whole piece is consumed.
+pub record HandedOver (s : State) (tables line piece : List ℕ) (handed : Result State State) (tables' line' : List ℕ) : Type 0 where
+  pub whole : IfOk handed (λ s'. Consumed s tables line piece s' tables' line')
+  pub ready : Ready (handed_state handed) tables' line'
+  pub empty : (handed_state handed).wrote ≡ 0
 
 -- ---- Runs
 

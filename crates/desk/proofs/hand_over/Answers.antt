@@ -19,5 +19,5 @@ loop-at-preserved g c =
 pub returns : goal.returns
 returns g c = handing_end c.loop-at.invariant.0 (omega (arith, c.loop-at-test.false))
 
-pub returns-in_err-write_all : goal.returns-in_err-write_all
-returns-in_err-write_all g c = handing_broken (handing_on_lem c.loop-at.invariant.0 c.feed-progress.ensures c.emptied-now.ensures) _ c.from_residual.ensures.0
+pub returns-then-is_err : goal.returns-then-is_err
+returns-then-is_err g c = handing_broken (handing_on_lem c.loop-at.invariant.0 c.feed-progress.ensures c.emptied-now.ensures)
