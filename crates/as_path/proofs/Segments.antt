@@ -9,7 +9,7 @@ use native.Mathlib.Omega.{arith}
 use lib.ListN.{length, take, drop, get_or, get_or-append, length-drop, take-append-drop}
 use lib.Seq.{take_all, drop-drop, length-take-le}
 use lib.Dec.{leb, eqb}
-use borrow.Author.Tests.{le-leb, lt-leb, eq-eqb, ne_eqb}
+use borrow.Author.Tests.{le-leb, lt-leb, leb-true, leb-false, eq-eqb, ne_eqb}
 use Rattle.rules.specs.Bytes.{big_endian, is_empty, every, exists, one_of, last_or}
 use Rattle.rules.specs.Rows.{Row, with_item, chop, chop_up_to, whole, by}
 use Rattle.rules.specs.Attributes.{segment_size, segments, asns, segment_ok, as_path_ok}
@@ -59,6 +59,11 @@ asns_last (suc k) s d e =
     let size : 4 + (length (drop 4 s) - 4) ≡ length s - 4 = omega (arith, e, length-drop 4 s) in
     rw (asns-step s (omega (arith, e)))
     (asns_last k (drop 4 s) _ (omega (arith, e, length-drop 4 s)) ∙ ap big_endian (drop-drop (length (drop 4 s) - 4) 4 s ∙ ap (λ (n : ℕ). drop n s) size))
+
+-- A segment has a type and a count.
+pub segment_cut : (s : List ℕ) → length s < 2 → length s < segment_size s
+unfolding segment_size
+segment_cut s h = omega (arith, h)
 
 -- A segment by itself.
 module _ (g : List ℕ) where
@@ -192,3 +197,33 @@ module _ {path : List ℕ} (segment after : List ℕ) (s : Split path segment af
     pub path-good : b ≡ true → as_path_ok path ≡ as_path_ok after
     unfolding as_path_ok
     path-good t = rw (path-next, t) refl
+
+-- A path is no longer than its bytes.
+path_length-up-to : (k : ℕ) (s : List ℕ) → length s ≤ k → path_length (segments s) ≤ length s
+unfolding segment_size
+path_length-up-to zero s h = omega (arith, h, path_length-none s (segment_cut s (omega (arith, h))))
+path_length-up-to (suc k) s h = go (leb (segment_size s) (length s)) refl (path_length-up-to k)
+  where
+    go : (b : Bool) → leb (segment_size s) (length s) ≡ b
+        → ((t : List ℕ) → length t ≤ k → path_length (segments t) ≤ length t) → path_length (segments s) ≤ length s
+    go false e ih = omega (arith, path_length-none s (leb-false (segment_size s) (length s) e))
+    go true e ih =
+        let size = segment_size s in
+        let fits : size ≤ length s = leb-true size (length s) e in
+        let segment = take size s in
+        let after = drop size s in
+        let parts : Split s segment after = record { is = sym (take-append-drop size s); size = length-take-le size s fits } in
+        let l = length-drop size s in
+        let least : 2 ≤ size = omega arith in
+        omega (
+          arith,
+          path_length-next segment after parts,
+          path_length-item segment after parts,
+          length-take-le size s fits,
+          ih after (omega (arith, l, least, h)),
+          l,
+          fits,
+        )
+
+pub path_length-le : (s : List ℕ) → path_length (segments s) ≤ length s
+path_length-le s = path_length-up-to (length s) s (omega arith)

@@ -4,11 +4,11 @@ use mathlib.Core.Path.{sym}
 use native.Mathlib.Omega.{arith}
 use lib.ListN.{take-append-drop}
 use Rattle.rules.specs.Attributes.{segment_size}
+use Rattle.as_path.proofs.Segments.{segment_cut}
 use Rattle.as_path.proofs.split_segment.Goals as goal
 
 pub returns-then-path-lt2 : goal.returns-then-path-lt2
-unfolding segment_size
-returns-then-path-lt2 c = omega (arith, c.if-path-lt2.true)
+returns-then-path-lt2 c = segment_cut c.args.path.now c.if-path-lt2.true
 
 pub returns-then-path-size : goal.returns-then-path-size
 unfolding segment_size
