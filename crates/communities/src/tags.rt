@@ -1,6 +1,6 @@
 // Tags, the origin validation state communities of RFC 8097 section 2: which communities are tags, which are dropped, and the
 // bytes of a new one (01, "Receipt" and "Sending"; 02, Q-11).
-ghost use Rattle.std.specs.Prelude.{◌≡◌, ◌+◌, ◌≤◌, length};
+ghost use Rattle.std.specs.Prelude.{◌≡◌, ◌+◌, ◌≤◌, length, cond, eqb};
 ghost use Rattle.rules.specs.Bytes.{same_bytes};
 ghost use Rattle.rules.specs.Changes.{is_tag, is_erroneous};
 ghost use Rattle.octets.specs.Buffer.{Stored};
@@ -23,6 +23,18 @@ pub const TAG_SUBTYPE: u8 = 0;
 pub enum Dropping {
     AllTags,
     ErroneousTags,
+}
+
+// The test of a number: 0 is every tag, any other those above 2.
+impl From<u8> for Dropping {
+    ghost from_gives = { λ number test. drop_test test ≡ cond (eqb number 0) is_tag is_erroneous };
+
+    fn from(number: u8) -> Dropping {
+        match number {
+            0 => Dropping::AllTags,
+            _ => Dropping::ErroneousTags,
+        }
+    }
 }
 
 // Whether a community is a tag. Internal.
