@@ -89,6 +89,10 @@ pub decoding_start : (s b : List ℕ) → length s ≤ 2 * length b → Decoding
 decoding_start s b h = record { twice = omega arith; wrote = writing_start b 0 (spelled s) (omega (arith, spelled-fits s, h)); told = refl }
 
 module _ {s b raw rest : List ℕ} {n : ℕ} (D : Decoding s b raw rest n) where
+  -- There is a pair left where a digit is.
+  pub decoding_pair : length s % 2 ≡ 0 → 0 < length rest → 1 < length rest
+  decoding_pair e h = omega (arith, D.twice, e, h)
+
   -- No pair is left of an even number of digits.
   pub pair_none : length s % 2 ≡ 0 → length rest < 2 → (spelled rest ≡ []) × (every is_digit rest ≡ true)
   unfolding spelled every
