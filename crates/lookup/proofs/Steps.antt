@@ -90,6 +90,9 @@ module _ (t : List ℕ) (len asn : ℕ) where
   -- ## All bits left
 
   module _ (q left node seen : ℕ) where
+    pub down-end : left ≡ 0 → {r : ℕ} → Arrived t len asn node seen r → r ≡ look_of t len asn left q node seen
+    down-end e a = a q ∙ ap (λ (n : ℕ). look_of t len asn n q node seen) (sym e)
+
     module _ {octet node' seen' : ℕ} (b : Begins octet left q) (d : Descended t len asn octet left node seen (left - 8) node' seen') where
       pub down-none : node' ≡ 0 → seen' ≡ look_of t len asn left q node seen
       down-none z = sym (d.on q b ∙ look_off t len asn q (left - 8) node' seen' (out-zero t node' z))
