@@ -15,6 +15,9 @@ use octets::{number4_at, wide};
 use prefixes::{IPV4, same_leading, same_prefix};
 use rules::Words;
 
+// The bytes of a record after its prefix.
+pub use prefixes::AFTER_PREFIX;
+
 // What a VRP is to a route: it does not cover it; it covers it and does not match; it matches.
 #[derive(Clone, Copy, PartialEq, Eq)]
 pub enum Weight {
