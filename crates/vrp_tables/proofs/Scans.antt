@@ -1,12 +1,15 @@
 -- The records of a table from the first on, and the scan over them. Over any width.
-use Prim.Native.Nat.{ℕ, ◌%◌, ◌<◌}
+use Prim.Native.Nat.{ℕ, ◌-◌, ◌%◌, ◌<◌}
 use mathlib.Core.Path.{◌≡◌, refl, sym, ap, ◌∙◌}
 use mathlib.Core.Bool.{Bool, true, false, cond, ◌||◌, or-true, or-false}
-use mathlib.Core.List.{List, [], ◌∷◌, ◌++◌, map, map-append}
+use mathlib.Core.List.{List, [], ◌∷◌, ◌++◌, map, map-append, append-nil}
 use mathlib.Core.Option.{Option}
 use native.Mathlib.Nat.{mod_self, zero-mod}
 use native.Mathlib.Omega.{arith}
-use lib.ListN.{length}
+use borrow.Author.Tests.{leb-true, leb-false}
+use lib.Dec.{leb}
+use lib.ListN.{length, take, drop, length-drop, take-append-drop, drop_of_length-le}
+use lib.Seq.{length-take-le, take_all}
 use Rattle.rules.specs.Bytes.{exists}
 use Rattle.rules.specs.Rows.{chop, by}
 use Rattle.rules.specs.Settings.{valid, not_found, invalid}
@@ -29,6 +32,9 @@ module _ (w : ℕ) where
   unfolding vrps
   vrps-short s h = ap (map (vrp w)) (items-end (vrp_size w) s 0 (omega arith))
 
+  pub vrps-end : (table : List ℕ) (at : ℕ) → length table - at < vrp_size w → vrps w (drop at table) ≡ []
+  vrps-end table at h = vrps-short (drop at table) (omega (arith, h, length-drop at table))
+
   pub vrps-none : vrps w [] ≡ []
   vrps-none = vrps-short [] size_pos
 
@@ -36,6 +42,17 @@ module _ (w : ℕ) where
   pub vrps-append : (v s : List ℕ) → length v % vrp_size w ≡ 0 → vrps w (v ++ s) ≡ vrps w v ++ vrps w s
   unfolding vrps
   vrps-append v s z = ap (map (vrp w)) (items-append (vrp_size w) size_pos v s z) ∙ map-append (vrp w) (chop (by (vrp_size w)) v).items (chop (by (vrp_size w)) s).items
+
+  pub vrps-split : (s : List ℕ) (m : ℕ) → m % vrp_size w ≡ 0 → vrps w s ≡ vrps w (take m s) ++ vrps w (drop m s)
+  vrps-split s m z = go (leb m (length s)) refl
+    where
+      go : (x : Bool) → leb m (length s) ≡ x → vrps w s ≡ vrps w (take m s) ++ vrps w (drop m s)
+      go true e =
+          ap (vrps w) (sym (take-append-drop m s))
+          ∙ vrps-append (take m s) (drop m s) (ap (λ (n : ℕ). n % vrp_size w) (length-take-le m s (leb-true m (length s) e)) ∙ z)
+      go false e =
+          let l = leb-false m (length s) e in
+          sym (rw (take_all m s (omega arith), drop_of_length-le s {i = m} (omega arith), vrps-none) (append-nil (vrps w s)))
 
   -- One record and those after it, as a table is lent piece by piece.
   module _ {s : List ℕ} (x rest : List ℕ) (e : s ≡ x ++ rest) (h : length x ≡ vrp_size w) where
