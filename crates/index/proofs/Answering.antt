@@ -168,7 +168,7 @@ module _ (w : ℕ) (added memory : List ℕ) (records nodes : ℕ) where
           held : {n : ℕ} → made ≡ Some n → Held w (newest w (table ++ added)) memory'
           held {n} p = rw (more-newest h added e) (put.held n p)
 
-        insert-full : Whole w → Octets added → made ≡ None → Inserts Holds w added memory records nodes (refused NoRoom) memory'
+        pub insert-full : Whole w → Octets added → made ≡ None → Inserts Holds w added memory records nodes (refused NoRoom) memory'
         insert-full whole o z =
             refusing (λ table h c d.
             let n = more-newest h added e in
@@ -177,7 +177,7 @@ module _ (w : ℕ) (added memory : List ℕ) (records nodes : ℕ) where
             ∙ by_build table)
             (puts.kept z)
 
-        insert-done : {n : ℕ} → made ≡ Some n → length memory' ≡ length memory → Inserts Holds w added memory records nodes (done n) memory'
+        pub insert-done : {n : ℕ} → made ≡ Some n → length memory' ≡ length memory → Inserts Holds w added memory records nodes (done n) memory'
         insert-done {n} p size =
             record {
               told = λ table h c d.
