@@ -116,7 +116,7 @@ module _ {w : ℕ} {table start t : List ℕ} {nodes : ℕ} {s : List ℕ} {reco
     all-records = sym (newest-length w table) ∙ ap length (sym onward) ∙ turned-length (vrps w rest) (vrp w x ∷ run.vs)
 
     -- The records so far are fewer than all.
-    run-number : records < length (vrps w table)
+    pub run-number : records < length (vrps w table)
     run-number = omega (arith, run.number, all-records)
 
     module _ (few : length (vrps w table) ≤ vrps_max) {t' : List ℕ} {made : Option ℕ} (p : Puts w (vrp w x) t records nodes t' made) where
