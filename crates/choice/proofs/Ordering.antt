@@ -1,10 +1,11 @@
 -- The order of routes by their keys, and their classes, each as the code tests it.
 use Prim.Native.Nat.{ℕ, zero, suc, ◌≤◌}
-use mathlib.Core.Path.{◌≡◌, refl, ◌∙◌}
-use mathlib.Core.Bool.{Bool, true, false, cond, ◌&&◌, ◌||◌}
+use mathlib.Core.Path.{◌≡◌, refl, sym, ◌∙◌}
+use mathlib.Core.Bool.{Bool, true, false, cond, ◌&&◌, ◌||◌, or-false}
 use mathlib.Core.List.{List, [], ◌∷◌}
 use native.Mathlib.Omega.{arith}
-use borrow.Author.Tests.{eq-eqb, ne_eqb}
+use native.Mathlib.Nat.{le_refl}
+use borrow.Author.Tests.{eq-eqb, ne_eqb, le-ltb}
 use lib.Dec.{ltb, eqb}
 use lib.ListN.{get_or}
 use Rattle.std.specs.Prelude.{Option, Some}
@@ -13,6 +14,16 @@ use Rattle.std.specs.Ordering.{is_lt, is_some_and, nat_cmp, partial_ordering_the
 use Rattle.rules.specs.Settings.{prioritise}
 use Rattle.rules.specs.Choice.{before}
 use Rattle.choice.specs.Bests.{rank}
+
+-- The first key decides where it differs, else those after it.
+module _ (x y : ℕ) (xs ys : List ℕ) where
+  pub before-first : (x ≡ y → ⊥) → ltb x y ≡ before (x ∷ xs) (y ∷ ys)
+  unfolding before
+  before-first h = rw (ne_eqb x y h) (sym (or-false (ltb x y)))
+
+  pub before-next : x ≡ y → before xs ys ≡ before (x ∷ xs) (y ∷ ys)
+  unfolding before
+  before-next e = rw (e, le-ltb y y (le_refl y), eq-eqb y y refl) refl
 
 -- By the order that `Keys` derives, as by `before`, the first key decides where it differs, else those after it.
 module _ (x y : ℕ) where
