@@ -5,13 +5,14 @@ use mathlib.Core.Bool.{Bool, true, false, not, cond, false≢true}
 use mathlib.Core.List.{List, [], ◌∷◌, ◌++◌, map}
 use native.Mathlib.Omega.{arith}
 use borrow.Author.Tests.{lt-ltb, le-ltb}
+use denote.Ref.{Bor}
 use lib.Dec.{ltb}
 use lib.ListN.{length, length-append}
 use Rattle.rules.specs.Bytes.{one_of, exists}
 use Rattle.rules.specs.Rows.{Row, chop, whole, by, with_item}
-use Rattle.rules.specs.Answers.{done, refused, order, number}
+use Rattle.rules.specs.Answers.{Answer, done, refused, order, number, answer_number, beside_number}
 use Rattle.rules.specs.Settings.{candidates_max, mode_ok, mode_meant}
-use Rattle.rules.specs.Choice.{Candidate, offer_size, offer, offers, candidate, bad_candidate, bad_offer, numbered_from, left_of, keys, before, choose_checks, choose_in, better}
+use Rattle.rules.specs.Choice.{Candidate, offer_size, offer, offers, candidate, bad_candidate, bad_offer, numbered_from, left_of, keys, before, choose_checks, choose_in, better, Shows, Compared}
 use Rattle.rules.specs.declared.Offer.{Offer}
 use Rattle.rules.specs.declared.Refusal.TheVariants.{BadSetting, BadLength, BadCandidate, NoRoute}
 use Rattle.rules.proofs.Answers.{here, past, earlier, answer-decided, answer-passed}
@@ -141,3 +142,8 @@ module _ (a b : Candidate) where
       → better a b ≡ done (cond t 1 0)
   unfolding better keys keys_in listed
   better-neither e f q = answer-passed order _ _ (λ z. e, (λ z. f, tt)) ∙ rw q refl
+
+-- What is told of two candidates and the block shown, as comparing promises them.
+pub compared : {decided told : Answer ℕ} {a b shown : Bor (List ℕ)} → told ≡ decided → Shows decided a b shown
+    → (told ≡ decided) × Compared decided a b shown (answer_number told) (beside_number told)
+compared e s = (e, record { answered = ap answer_number e; beside = ap beside_number e; shows = s })

@@ -9,9 +9,9 @@ pub mod keys;
 pub mod offers;
 
 ghost use Rattle.std.specs.Prelude.{◌≡◌, [], Err};
-ghost use Rattle.rules.specs.Answers.{told};
+ghost use Rattle.rules.specs.Answers.{told, answer_number, beside_number};
 ghost use Rattle.rules.specs.declared.Refusal.TheVariants.{BadCandidate};
-ghost use Rattle.rules.specs.Choice.{choose_in, better, told_chosen, Shows};
+ghost use Rattle.rules.specs.Choice.{choose_in, better, told_chosen, Compared};
 
 use attributes::read;
 use best::take;
@@ -79,7 +79,8 @@ fn bad<'a>(index: usize, first: &'a [u8]) -> Comparison<'a>
 
 // The better of two candidates, by the order alone.
 pub fn better<'a>(a: &'a [u8], sender: Sender, b: &'a [u8], other: Sender) -> Comparison<'a>
-    ensures { let decided = better (record { block = a.now; state = sender.state; identifier = sender.identifier; address = sender.address }) (record { block = b.now; state = other.state; identifier = other.identifier; address = other.address }) in (told result.told ≡ decided) × Shows decided a.entry b.entry result.shown }
+    ensures { let decided = better (record { block = a.now; state = sender.state; identifier = sender.identifier; address = sender.address }) (record { block = b.now; state = other.state; identifier = other.identifier; address = other.address }) in (told result.told ≡ decided)
+        × Compared decided a.entry b.entry result.shown (answer_number (told result.told)) (beside_number (told result.told)) }
 {
     if out_of_range(a.len(), sender.state) {
         return bad(0, a);
