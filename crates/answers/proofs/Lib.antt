@@ -1,0 +1,2 @@
+-- Laws of an answer as numbers.
+pub mod Numbering
