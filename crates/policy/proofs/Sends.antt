@@ -12,6 +12,7 @@ use Rattle.rules.specs.Changes.{new_flags}
 use Rattle.rules.specs.Sending.{own_route, sending_rules, tag_sent, otc_sent, sending_result, sending_verdict}
 use Rattle.rules.specs.declared.Session.{Session}
 use Rattle.rules.specs.declared.Refusal.TheVariants.{Withheld, Malformed, BadSetting, BadLength}
+use Rattle.rules.proofs.Lists.{and_left}
 use Rattle.settings.specs.Told.{told_tag, told_otc}
 use Rattle.attributes.specs.Layout.{reading}
 use Rattle.attributes.specs.declared.layout.Layout.{Layout}
@@ -40,6 +41,9 @@ module _ (s : Session) (source state : ℕ) (b : List ℕ) where
   sends_setting e = decided_setting sending_ok b rules (sending_late s source state (attributes b)) result e
 
   module _ (e : sending_ok ≡ true) where
+    pub sends-session : session_ok s ≡ true
+    sends-session = and_left (session_ok s) (source_ok source) (and_left (session_ok s && source_ok source) (state_ok state) e)
+
     pub sends-length : leb (length b) block_max ≡ false → sending_verdict s source state b ≡ refused BadLength
     unfolding sending_verdict
     sends-length h = decided-length sending_ok b rules (sending_late s source state (attributes b)) result e h
