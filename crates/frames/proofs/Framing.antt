@@ -162,12 +162,12 @@ module _ (s : Session) (f made : List ℕ) where
 
     module _ {b before after : List ℕ} {told : Answer ℕ} (e : b ≡ drop 3 f) (k : length before ≡ block_max)
         (p : Leaves (sending_verdict s (get_or f 1 0) (get_or f 2 0) b) before told after) where
-      sending_refused : {r : Refusal} → told ≡ refused r → Replies (sending_frame s f) made (Err r)
+      pub sending_refused : {r : Refusal} → told ≡ refused r → Replies (sending_frame s f) made (Err r)
       unfolding send_write
       sending_refused {r} z =
           replies-refused made (sending_is (refused r) (rw (← e) (leaves-refused {decided = sending_verdict s (get_or f 1 0) (get_or f 2 0) b} k p z)))
 
-      sending_done : {n : ℕ} → told ≡ done n → Replies (sending_frame s f) (after ++ made) (Ok n)
+      pub sending_done : {n : ℕ} → told ≡ done n → Replies (sending_frame s f) (after ++ made) (Ok n)
       unfolding send_write replied
       sending_done {n} z =
           let q = leaves-done {decided = sending_verdict s (get_or f 1 0) (get_or f 2 0) b} k p z in
