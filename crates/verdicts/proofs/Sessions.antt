@@ -16,9 +16,10 @@ as_some n e = leb-true 1 n (and_left (leb 1 n) (leb n 4294967295) e)
 pub session_ases : (s : Session) → session_ok s ≡ true → (1 ≤ local_as s) × (1 ≤ remote_as s)
 unfolding session_ok
 session_ases s e =
-    let ases = as_ok (local_as s) && as_ok (remote_as s) in
-    let apart = ases && not (eqb (local_as s) (remote_as s)) in
+    let local = as_ok (local_as s) in
+    let remote = as_ok (remote_as s) in
+    let apart = local && remote && not (eqb (local_as s) (remote_as s)) in
     let moded = and_left (apart && role_ok (local_role s) && mode_ok s.mode) (administration_ok s) e in
     let role = and_left (apart && role_ok (local_role s)) (mode_ok s.mode) moded in
-    let both = and_left ases (not (eqb (local_as s) (remote_as s))) (and_left apart (role_ok (local_role s)) role) in
-    (as_some (local_as s) (and_left (as_ok (local_as s)) (as_ok (remote_as s)) both), as_some (remote_as s) (and_right (as_ok (local_as s)) (as_ok (remote_as s)) both))
+    let both = and_left (local && remote) (not (eqb (local_as s) (remote_as s))) (and_left apart (role_ok (local_role s)) role) in
+    (as_some (local_as s) (and_left local remote both), as_some (remote_as s) (and_right local remote both))
