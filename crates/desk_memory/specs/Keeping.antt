@@ -1,14 +1,17 @@
 -- What the desk keeps as the definition's desk.
-use Rattle.std.specs.Prelude.{ℕ, ◌%◌, ◌≤◌, ◌≡◌, Bool, cond, List, length, take, drop, Some, None}
+use Rattle.std.specs.Prelude.{ℕ, ◌%◌, ◌≤◌, ◌≡◌, Bool, cond, List, length, take, drop, Some, None, Err}
 use Rattle.std.specs.Prelude as std
 use Rattle.std.proofs.Math.Option.{Option, none, some}
 use Rattle.rules.specs.Origin.{ipv4, ipv6, vrp_size, vrps}
 use Rattle.rules.specs.Desk.{Desk, session_in, frame_answer, frame_field, frame_next}
+use Rattle.rules.specs.declared.Refusal.TheVariants.{Unreadable}
 use Rattle.rules.specs.declared.Session.{Session}
 use Rattle.vrp_tables.specs.Scan.{GoodTable}
 use Rattle.desk_memory.specs.declared.kinds.Ip.{Ip}
 use Rattle.desk_memory.specs.declared.kinds.Ip.TheVariants.{V4, V6}
-use Rattle.frames.specs.Replying.{Tells, was_done}
+use Rattle.desk_memory.specs.declared.kinds.Kind.{Kind}
+use Rattle.desk_memory.specs.declared.kinds.Kind.TheVariants.{Session as A_session, Receipt, Sending, Vrp}
+use Rattle.frames.specs.Replying.{Tells, plain, dashed, was_done}
 use Rattle.frames.specs.declared.reply.Outcome.{Outcome}
 use Rattle.desk_memory.specs.declared.kept.Kept.{Kept}
 use Rattle.desk_memory.specs.Sizes.{table_max, tables_max}
@@ -59,6 +62,13 @@ pub record Keeps (k : Kept) (tables : List ℕ) : Type 0 where
 -- What is told of a frame is its answer and its fourth field.
 abbrev pub TellsFrame : Desk → List ℕ → List ℕ → Outcome → Type 0
 TellsFrame d f made outcome = Tells (frame_answer d f) (frame_field f (frame_answer d f)) made outcome
+
+-- What is told of a frame that needs a session, where there is none: a receipt has its fourth field all the same.
+abbrev pub without_session : Kind → Outcome
+without_session A_session = plain (Err Unreadable)
+without_session (Receipt ip) = dashed Unreadable
+without_session Sending = plain (Err Unreadable)
+without_session (Vrp ip) = plain (Err Unreadable)
 
 -- Whether a frame was taken is what the definition says.
 abbrev pub Agrees : Desk → List ℕ → Bool → Type 0

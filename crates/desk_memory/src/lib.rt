@@ -10,7 +10,7 @@ pub mod sizes;
 ghost use Rattle.std.specs.Prelude.{◌≡◌, true, ◌≤◌, length, take};
 ghost use Rattle.rules.specs.Desk.{session_head};
 ghost use Rattle.frames.specs.Sizes.{result_max};
-ghost use Rattle.desk_memory.specs.Keeping.{desk_of, used_of, memory_of, TellsFrame, Keeps, Agrees, KeptNext, kept_session};
+ghost use Rattle.desk_memory.specs.Keeping.{desk_of, used_of, memory_of, without_session, TellsFrame, Keeps, Agrees, KeptNext, kept_session};
 
 use frames::kinds::{receipt_frame, sending_frame, session_frame, session_in, vrp_frame};
 use frames::reply::{Outcome, dashed, plain};
@@ -41,7 +41,17 @@ fn table_of(kept: Kept, tables: &[u8], ip: Ip) -> &[u8]
     }
 }
 
-// A frame of any kind. A receipt that there is no session for has its fourth field all the same. Internal.
+// A frame that needs a session, where there is none: a receipt has its fourth field all the same. Internal.
+fn without_session(kind: Kind) -> Outcome
+    ensures { result ≡ without_session kind }
+{
+    match kind {
+        Kind::Receipt(_) => dashed(Refusal::Unreadable),
+        Kind::Session | Kind::Sending | Kind::Vrp(_) => plain(Err(Refusal::Unreadable)),
+    }
+}
+
+// A frame of any kind. Internal.
 pub fn answer_frame(kept: Kept, tables: &[u8], frame: &[u8], made: &mut [u8]) -> Outcome
     requires { (1 ≤ length frame.now) × (Keeps kept tables.now) × (length made.old ≡ result_max) }
     ensures { TellsFrame (desk_of kept tables.now) frame.now made.new result }
@@ -69,11 +79,11 @@ pub fn answer_frame(kept: Kept, tables: &[u8], frame: &[u8], made: &mut [u8]) ->
                     made,
                 ),
             },
-            None => dashed(Refusal::Unreadable),
+            None => without_session(kind),
         },
         Kind::Sending => match kept.session {
             Some(session) => plain(sending_frame(session, frame, made)),
-            None => plain(Err(Refusal::Unreadable)),
+            None => without_session(kind),
         },
         Kind::Vrp(ip) => plain(vrp_frame(ip.family(), used_of(kept, ip), frame, made)),
     }

@@ -37,7 +37,7 @@ pub returns-in-None : goal.returns-in-None
 returns-in-None c = let a = c.args in
     let w = c.in-Receipt.ip in
     let b = rw c.in-Receipt.is at c.in-Some.ensures in
-    rw c.dashed.ensures (tells-dashed a.frame.now w b (frame_no_receipt a.kept a.tables.now a.frame.now c.in-None.is w b))
+    rw c.without_session.ensures (tells-dashed a.frame.now w b (frame_no_receipt a.kept a.tables.now a.frame.now c.in-None.is w b))
 
 pub returns-in-Some-session-2 : goal.returns-in-Some-session-2
 returns-in-Some-session-2 c = let a = c.args in
@@ -47,7 +47,7 @@ returns-in-Some-session-2 c = let a = c.args in
 pub returns-in-None-session : goal.returns-in-None-session
 returns-in-None-session c = let a = c.args in
     let b = rw c.in-Sending.is at c.in-Some.ensures in
-    rw c.plain-in-None-session.ensures
+    rw (c.without_session-in-None-session.ensures, c.in-Sending.is)
     (tells_plain a.frame.now (rw b refl) (rw b refl) (replies-refused a.made.now (frame_no_sending a.kept a.tables.now a.frame.now c.in-None-session.is b)))
 
 pub returns-in-Vrp : goal.returns-in-Vrp
